@@ -1,0 +1,4 @@
+-- What a reader of this crate must believe: definitions only. Theorems about them stand in proofs/.
+pub mod Pattern
+pub mod Quantity
+pub mod Bytes
