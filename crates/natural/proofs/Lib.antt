@@ -1,0 +1,9 @@
+pub mod Limb
+pub mod Value
+pub mod Carry
+pub mod Division
+pub mod Reading
+pub mod Product
+pub mod Start
+pub mod Ceiling
+pub mod Rounding
