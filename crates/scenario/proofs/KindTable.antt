@@ -1,0 +1,100 @@
+-- Laws of the table of kinds: `by-kind` (what holds of each kind, and of what is none), `no-kind`, `rows-count` (T with the paper's rows),
+-- `city-rows` and `city-life` (of the kinds for a city), `other-users`.
+-- Of ranges: `in-range`, `from-zero`, `only-zero`, `none-allowed`.
+-- Laws of limits are in `Limits`.
+use mathlib.Core.Path.{_≡_, refl, sym}
+use mathlib.Core.Bool.{true, false, _&&_}
+use Prim.Native.Nat.{ℕ, zero, suc, _≤_}
+use native.Mathlib.Omega.{arith}
+use lib.Dec.{leb, eqb, leb·zero, leb·suc-zero, eqb·suc-zero}
+use borrow.Author.Tests.{lt-leb, leb-true}
+use Rattle.scenario.specs.Case.{Range, within, _to_, kinds, noKind, kindAt}
+use Rattle.scenario.proofs.Bools.{both, and-false}
+
+-- ── ranges
+
+pub in-range : (r : Range) (n : ℕ) → within r n ≡ true → (r .from ≤ n) × (n ≤ r .to)
+in-range r n h =
+    let p = both (leb (r .from) n) (leb n (r .to)) h in
+    (leb-true (r .from) n (p .0), leb-true n (r .to) (p .1))
+
+pub from-zero : (m n : ℕ) → within (0 to m) n ≡ leb n m
+from-zero m n = rw leb·zero
+
+pub only-zero : (n : ℕ) → within (0 to 0) n ≡ eqb n 0
+only-zero zero = refl
+only-zero (suc n) = rw (leb·zero, leb·suc-zero, eqb·suc-zero)
+
+-- what is no kind allows nothing
+pub none-allowed : (n : ℕ) → within (1 to 0) n ≡ false
+none-allowed zero = refl
+none-allowed (suc n) = rw leb·suc-zero (and-false (leb 1 (suc n)))
+
+-- ── kinds
+
+pub by-kind : (P : ℕ → Type 0) → P 1 → P 2 → P 3 → P 4 → P 5 → P 6 → P 7 → ((k : ℕ) → within (1 to 7) k ≡ false → kindAt k ≡ noKind → P k) → (k : ℕ) → P k
+unfolding kindAt
+by-kind P a b c d e f g h zero = h 0 refl refl
+by-kind P a b c d e f g h (suc zero) = a
+by-kind P a b c d e f g h (suc (suc zero)) = b
+by-kind P a b c d e f g h (suc (suc (suc zero))) = c
+by-kind P a b c d e f g h (suc (suc (suc (suc zero)))) = d
+by-kind P a b c d e f g h (suc (suc (suc (suc (suc zero))))) = e
+by-kind P a b c d e f g h (suc (suc (suc (suc (suc (suc zero)))))) = f
+by-kind P a b c d e f g h (suc (suc (suc (suc (suc (suc (suc zero))))))) = g
+by-kind P a b c d e f g h (suc (suc (suc (suc (suc (suc (suc (suc k)))))))) =
+    let n = suc (suc (suc (suc (suc (suc (suc (suc k))))))) in
+    h n (rw (lt-leb n 7 (omega arith)) (and-false (leb 1 n))) refl
+
+-- what a match on the seven kinds leaves to its last arm
+abbrev pub OtherThan7 : ℕ → Type 0
+OtherThan7 k = ((((((Unit {0} × (k ≡ 1 → ⊥)) × (k ≡ 2 → ⊥)) × (k ≡ 3 → ⊥)) × (k ≡ 4 → ⊥)) × (k ≡ 5 → ⊥)) × (k ≡ 6 → ⊥)) × (k ≡ 7 → ⊥)
+
+pub no-kind : (k : ℕ) → OtherThan7 k → kindAt k ≡ noKind
+no-kind =
+    by-kind (λ k. OtherThan7 k → kindAt k ≡ noKind)
+    (λ o. absurd (o .0 .0 .0 .0 .0 .0 .1 refl))
+    (λ o. absurd (o .0 .0 .0 .0 .0 .1 refl))
+    (λ o. absurd (o .0 .0 .0 .0 .1 refl))
+    (λ o. absurd (o .0 .0 .0 .1 refl))
+    (λ o. absurd (o .0 .0 .1 refl))
+    (λ o. absurd (o .0 .1 refl))
+    (λ o. absurd (o .1 refl))
+    (λ k w e o. e)
+
+pub rows-count : (k t : ℕ) → (leb 1 k && leb k 7 && eqb t 0) ≡ within (kindAt k .rowCount) t
+unfolding kindAt kinds
+rows-count k t =
+    let z : eqb t 0 ≡ within (0 to 0) t = sym (only-zero t) in
+    by-kind (λ k. (leb 1 k && leb k 7 && eqb t 0) ≡ within (kindAt k .rowCount) t) z z z z z z z (λ k w e. rw (w, e) (sym (none-allowed t))) k
+
+-- of what is no kind, in a range of its own that allows nothing
+nothing : {A : Type 0} (n : ℕ) → within (1 to 0) n ≡ true → A
+nothing n w = let r = in-range (1 to 0) n w in absurd (omega arith)
+
+pub city-rows : (k row : ℕ) → k ≤ 3 → within (kindAt k .rows) row ≡ true → row ≤ 7
+unfolding kindAt kinds
+city-rows k row =
+    by-kind (λ k. k ≤ 3 → within (kindAt k .rows) row ≡ true → row ≤ 7)
+    (λ h w. in-range (0 to 7) row w .1) (λ h w. in-range (0 to 7) row w .1) (λ h w. in-range (0 to 7) row w .1)
+    (λ h w. absurd (omega arith)) (λ h w. absurd (omega arith)) (λ h w. absurd (omega arith)) (λ h w. absurd (omega arith))
+    (λ k o e h w. nothing row (rw e at w))
+    k
+
+pub city-life : (k t : ℕ) → k ≤ 2 → within (kindAt k .ownCount) t ≡ true → (31 ≤ t) × (t ≤ 36500)
+unfolding kindAt kinds
+city-life k t =
+    by-kind (λ k. k ≤ 2 → within (kindAt k .ownCount) t ≡ true → (31 ≤ t) × (t ≤ 36500))
+    (λ h w. in-range (31 to 36500) t w) (λ h w. in-range (31 to 36500) t w)
+    (λ h w. absurd (omega arith)) (λ h w. absurd (omega arith)) (λ h w. absurd (omega arith)) (λ h w. absurd (omega arith)) (λ h w. absurd (omega arith))
+    (λ k o e h w. nothing t (rw e at w))
+    k
+
+pub other-users : (k user : ℕ) → (k ≡ 3 → ⊥) → within (kindAt k .users) user ≡ true → user ≡ 0
+unfolding kindAt kinds
+other-users k user =
+    let z : within (0 to 0) user ≡ true → user ≡ 0 = (λ w. let r = in-range (0 to 0) user w in omega arith) in
+    by-kind (λ k. (k ≡ 3 → ⊥) → within (kindAt k .users) user ≡ true → user ≡ 0)
+    (λ h. z) (λ h. z) (λ h w. absurd (h refl)) (λ h. z) (λ h. z) (λ h. z) (λ h. z)
+    (λ k o e h w. nothing user (rw e at w))
+    k

@@ -1,0 +1,9 @@
+-- Laws that this crate's proofs and the crates above cite, and theorems on refusals and cases.
+pub mod Bools
+pub mod Refusals
+pub mod KindTable
+pub mod Six
+pub mod Limits
+pub mod Passed
+pub mod Sum
+pub mod Edges

@@ -1,0 +1,141 @@
+-- What a case satisfies that no refusal holds for: the record `Passed`, and `passed`.
+-- A pattern's exact value and its order are in crate binary64.
+use mathlib.Core.Path.{_≡_, refl, subst}
+use mathlib.Core.Bool.{Bool, true, false, _&&_, _||_}
+use mathlib.Core.List.{List}
+use Prim.Native.Nat.{ℕ, _*_, _≤_, _<_}
+use native.Mathlib.Omega.{arith}
+use lib.Dec.{leb, eqb}
+use lib.Ieee.{binary64, ofBits}
+use lib.ListN.{length}
+use borrow.Author.Tests.{not-false, leb-true, eqb-true, eq-eqb, ne-eqb}
+use Rattle.binary64.specs.Pattern.{isUnsignedFinite}
+use Rattle.binary64.specs.Quantity.{whole, one}
+use Rattle.scenario.specs.Case.{Listing, unlisted, upTo, _to_, within, kinds, kindAt, countsAt, listingAt, kindOf, rowOf, routeOf, userOf, countOf, dossierOf, patternAt, notSixtyFour, kindUnknown, rowUnknown, routeNotAllowed, userNotAllowed, countNotAllowed, dossierZero, anyNotNumber, notZeroBytes, overLimit, sumWithin, sumOver, refusals, refusalOf}
+use Rattle.scenario.proofs.Bools.{both}
+use Rattle.scenario.proofs.Refusals.{none-holds}
+use Rattle.scenario.proofs.KindTable.{in-range, rows-count, city-rows, city-life, other-users}
+use Rattle.scenario.proofs.Six.{none-of-six, each-finite}
+
+pub record Passed (b : List ℕ) : Type 0 where
+  -- refusals 1 to 7 as tests
+  pub sixty-four : length b ≡ 64
+  pub kind : within (1 to 7) (kindOf b) ≡ true
+  pub row : within (kindAt (kindOf b) .rows) (rowOf b) ≡ true
+  pub route : routeNotAllowed (kindOf b) (rowOf b) (routeOf b) ≡ false
+  pub user : within (kindAt (kindOf b) .users) (userOf b) ≡ true
+  pub count : within (countsAt (kindOf b) (rowOf b)) (countOf b) ≡ true
+  pub dossier : dossierZero (dossierOf b) ≡ false
+  -- the kind and the rows
+  pub kind-from : 1 ≤ kindOf b
+  pub kind-to : kindOf b ≤ 7
+  pub city-row : kindOf b ≤ 3 → rowOf b ≤ 7
+  pub sanitary-row : kindOf b ≡ 4 → rowOf b ≤ 1
+  pub formulation-row : kindOf b ≡ 5 → rowOf b ≡ 0
+  pub hygiene-row : kindOf b ≡ 6 → rowOf b ≤ 5
+  pub toilets-row : kindOf b ≡ 7 → rowOf b ≤ 1
+  -- the routes and the users
+  pub route-from : 1 ≤ routeOf b
+  pub route-to : routeOf b ≤ 2
+  pub rain-sewer : routeOf b ≡ 2 → kindOf b ≤ 3
+  pub application-user : kindOf b ≡ 3 → (1 ≤ userOf b) × (userOf b ≤ 2)
+  pub other-user : (kindOf b ≡ 3 → ⊥) → userOf b ≡ 0
+  -- T, with row 0 and with the paper's rows
+  pub life : kindOf b ≤ 2 → rowOf b ≡ 0 → (31 ≤ countOf b) × (countOf b ≤ 36500)
+  pub houses : kindOf b ≡ 3 → rowOf b ≡ 0 → (1 ≤ countOf b) × (countOf b ≤ 100)
+  pub sanitary-days : kindOf b ≡ 4 → rowOf b ≡ 0 → (1 ≤ countOf b) × (countOf b ≤ 366)
+  pub formulation-days : kindOf b ≡ 5 → rowOf b ≡ 0 → (1 ≤ countOf b) × (countOf b ≤ 366)
+  pub hygiene-count : kindOf b ≡ 6 → rowOf b ≡ 0 → countOf b ≡ 0
+  pub wagons : kindOf b ≡ 7 → rowOf b ≡ 0 → (1 ≤ countOf b) × (countOf b ≤ 100)
+  pub row-count : (rowOf b ≡ 0 → ⊥) → countOf b ≡ 0
+  -- the quantities: refusal 8 as a test, then what 8 to 11 leave
+  pub numbers : anyNotNumber (patternAt b) ≡ false
+  pub finite : (i : ℕ) → i < 6 → isUnsignedFinite (patternAt b i) ≡ true
+  pub zero-bytes : (i : ℕ) → i < 6 → listingAt (kindOf b) (rowOf b) i ≡ unlisted → patternAt b i ≡ 0
+  pub at-most : (i n : ℕ) → i < 6 → listingAt (kindOf b) (rowOf b) i ≡ upTo n → whole (patternAt b i) ≤ n * one
+  pub sum : kindOf b ≡ 5 → sumWithin (ofBits binary64 (patternAt b 2)) (ofBits binary64 (patternAt b 3)) (ofBits binary64 (patternAt b 4)) ≡ true
+
+-- ── what a condition that does not hold leaves
+
+-- with row 0, of a kind
+own-count : (k row t : ℕ) → row ≡ 0 → within (countsAt k row) t ≡ true → within (kindAt k .ownCount) t ≡ true
+own-count k row t e w = rw (eq-eqb row 0 e) at w
+
+paper-count : (k row t : ℕ) → (row ≡ 0 → ⊥) → within (countsAt k row) t ≡ true → t ≡ 0
+paper-count k row t h w =
+    let v : within (kindAt k .rowCount) t ≡ true = rw (ne-eqb row 0 h) at w in
+    eqb-true t 0 (both (leb 1 k && leb k 7) (eqb t 0) (rw (rows-count k t) v) .1)
+
+routes : (k row route : ℕ) → routeNotAllowed k row route ≡ false → (1 ≤ route) × (route ≤ 2) × (route ≡ 2 → k ≤ 3)
+unfolding routeNotAllowed
+routes k row route e = go (eqb route 1) (eqb route 2) (within (1 to 3) k) refl refl refl (not-false _ e)
+  where
+    go : (p q r : Bool) → eqb route 1 ≡ p → eqb route 2 ≡ q → within (1 to 3) k ≡ r → (p || (q && (r && (eqb row 0 || within (3 to 7) row)))) ≡ true
+        → (1 ≤ route) × (route ≤ 2) × (route ≡ 2 → k ≤ 3)
+    go true q r ep eq er h = let o = eqb-true route 1 ep in (omega arith, omega arith, λ (z : route ≡ 2). absurd (omega arith))
+    go false true true ep eq er h = let o = eqb-true route 2 eq in let i = in-range (1 to 3) k er in (omega arith, omega arith, λ (z : route ≡ 2). i .1)
+    go false true false ep eq er h = let z : _≡_ {A = ℕ} 0 1 = cc in absurd (omega arith)
+    go false false r ep eq er h = let z : _≡_ {A = ℕ} 0 1 = cc in absurd (omega arith)
+
+unlisted-zero : (l : Listing) (p : ℕ) → l ≡ unlisted → notZeroBytes l p ≡ false → p ≡ 0
+unfolding notZeroBytes
+unlisted-zero l p e h = eqb-true p 0 (not-false (eqb p 0) (rw e at h))
+
+listed-within : (l : Listing) (n p : ℕ) → l ≡ upTo n → overLimit l p ≡ false → whole p ≤ n * one
+unfolding overLimit
+listed-within l n p e h = leb-true (whole p) (n * one) (not-false (leb (whole p) (n * one)) (rw e at h))
+
+sum-passes : (k : ℕ) (p : ℕ → ℕ) → k ≡ 5 → sumOver k p ≡ false → sumWithin (ofBits binary64 (p 2)) (ofBits binary64 (p 3)) (ofBits binary64 (p 4)) ≡ true
+unfolding sumOver
+sum-passes k p e h = not-false (sumWithin (ofBits binary64 (p 2)) (ofBits binary64 (p 3)) (ofBits binary64 (p 4))) (rw e at h)
+
+-- ── the record
+
+pub passed : (b : List ℕ) → refusalOf b ≡ 0 → Passed b
+unfolding refusalOf notSixtyFour kindUnknown rowUnknown userNotAllowed countNotAllowed kindAt kinds
+passed b e =
+    let k = kindOf b in
+    let r = rowOf b in
+    let t = countOf b in
+    let h = none-holds (refusals b) refl e in
+    let kind-test : within (1 to 7) k ≡ true = not-false _ (h 1) in
+    let row-test : within (kindAt k .rows) r ≡ true = not-false _ (h 2) in
+    let user-test : within (kindAt k .users) (userOf b) ≡ true = not-false _ (h 4) in
+    let count-test : within (countsAt k r) t ≡ true = not-false _ (h 5) in
+    let rows : (m : ℕ) → k ≡ m → within (kindAt m .rows) r ≡ true = (λ m q. subst (λ (n : ℕ). within (kindAt n .rows) r ≡ true) q row-test) in
+    let counts : (m : ℕ) → k ≡ m → r ≡ 0 → within (kindAt m .ownCount) t ≡ true =
+    (λ m q z. subst (λ (n : ℕ). within (kindAt n .ownCount) t ≡ true) q (own-count k r t z count-test)) in
+    let ways = routes k r (routeOf b) (h 3) in
+    record {
+      sixty-four = eqb-true (length b) 64 (not-false _ (h 0));
+      kind = kind-test;
+      row = row-test;
+      route = h 3;
+      user = user-test;
+      count = count-test;
+      dossier = h 6;
+      kind-from = in-range (1 to 7) k kind-test .0;
+      kind-to = in-range (1 to 7) k kind-test .1;
+      city-row = λ q. city-rows k r q row-test;
+      sanitary-row = λ q. in-range (0 to 1) r (rows 4 q) .1;
+      formulation-row = λ q. let i = in-range (0 to 0) r (rows 5 q) in omega arith;
+      hygiene-row = λ q. in-range (0 to 5) r (rows 6 q) .1;
+      toilets-row = λ q. in-range (0 to 1) r (rows 7 q) .1;
+      route-from = ways .0;
+      route-to = ways .1;
+      rain-sewer = ways .2;
+      application-user = λ q. in-range (1 to 2) (userOf b) (subst (λ (n : ℕ). within (kindAt n .users) (userOf b) ≡ true) q user-test);
+      other-user = λ q. other-users k (userOf b) q user-test;
+      life = λ q z. city-life k t q (own-count k r t z count-test);
+      houses = λ q z. in-range (1 to 100) t (counts 3 q z);
+      sanitary-days = λ q z. in-range (1 to 366) t (counts 4 q z);
+      formulation-days = λ q z. in-range (1 to 366) t (counts 5 q z);
+      hygiene-count = λ q z. let i = in-range (0 to 0) t (counts 6 q z) in omega arith;
+      wagons = λ q z. in-range (1 to 100) t (counts 7 q z);
+      row-count = λ z. paper-count k r t z count-test;
+      numbers = h 7;
+      finite = each-finite (patternAt b) (h 7);
+      zero-bytes = λ i l q. unlisted-zero (listingAt k r i) (patternAt b i) q (none-of-six (λ j. notZeroBytes (listingAt k r j) (patternAt b j)) (h 8) i l);
+      at-most = λ i n l q. listed-within (listingAt k r i) n (patternAt b i) q (none-of-six (λ j. overLimit (listingAt k r j) (patternAt b j)) (h 9) i l);
+      sum = λ q. sum-passes k (patternAt b) q (h 10);
+    }
