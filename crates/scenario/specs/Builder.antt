@@ -9,7 +9,10 @@ caseBytes kind row route user t dossier a b c d e f =
     kind ∷ row ∷ route ∷ user ∷ bytesOf 4 t ++ bytesOf 8 dossier
     ++ bytesOf 8 a ++ bytesOf 8 b ++ bytesOf 8 c ++ bytesOf 8 d ++ bytesOf 8 e ++ bytesOf 8 f
 
--- ── the patterns of 16, 1, 3/4, 1/2, 1/4, 1/8, 2 ^ -52, 2 ^ -53 and 2 ^ -54
+-- ── the patterns of 100, 16, 1, 3/4, 1/2, 1/4, 1/8, 1/32, 1/64, and 2 to the power of -9, -10, -52, -53 and -54
+
+abbrev pub hundred : ℕ
+hundred = 0x4059000000000000
 
 abbrev pub sixteen : ℕ
 sixteen = 0x4030000000000000
@@ -28,6 +31,18 @@ quarter = 0x3fd0000000000000
 
 abbrev pub eighth : ℕ
 eighth = 0x3fc0000000000000
+
+abbrev pub thirty-second : ℕ
+thirty-second = 0x3fa0000000000000
+
+abbrev pub sixty-fourth : ℕ
+sixty-fourth = 0x3f90000000000000
+
+abbrev pub two^-9 : ℕ
+two^-9 = 0x3f60000000000000
+
+abbrev pub two^-10 : ℕ
+two^-10 = 0x3f50000000000000
 
 abbrev pub two^-52 : ℕ
 two^-52 = 0x3cb0000000000000

@@ -1,0 +1,80 @@
+-- Demand 2, of the result of a call of `work_out`: what its own contract, as the toolchain reads it (`Reads.Learnt`), says.
+--   bounds-of-ceiling   an exact value rounded up is within the bounds, at any margin
+--   Call, met           a call of `work_out`; that the function meets the contract which a call goes by
+--   figure-exact        an accepted result's figures are the exact values rounded up
+--   figure-bounds       each is within the bounds: never below, hardly above, zero exactly when the value is zero
+--   zero-iff            the last part by itself
+-- That no lower number is 0 is in Positive.
+use mathlib.Core.Path.{_≡_, sym, ap, _∙_}
+use mathlib.Core.List.{List, map}
+use Prim.Native.Nat.{ℕ, _+_, _*_, _^_, _≤_, _<_}
+use native.Mathlib.Nat.{mul-le-mul-right}
+use native.Mathlib.Omega.{arith}
+use lib.ListN.{getD, List·getD-map}
+use denote.Ref.{now}
+use denote.Triple.Clauses.{AtExit}
+use contract.Lifetimes.{Lfts}
+use borrow.Fn.Kinds as kinds
+use Rattle.natural.specs.Ceiling.{ceiling}
+use Rattle.natural.proofs.Ceiling.{ceiling-not-below, ceiling-less-than-one-above, ceiling-zero}
+use Rattle.emission.specs.Ratio.{Ratio, _over_, roundedUp}
+use Rattle.emission.specs.Figures.{exactValues, WithinBounds, margin}
+use Rattle.emission.proofs.Accepted.{figures-exact}
+use Rattle.emission.proofs.Positive.{lower-not-zero}
+use Rattle.emission.proofs.work_out.Kinds as work-out-kinds
+use Rattle.emission.proofs.work_out.Reads as work-out-reads
+use Rattle.emission.proofs.work_out.Met as work-out-met
+use Rattle.emission.proofs.work_out.Statement as work-out-statement
+
+-- ── the law, for every exact value
+
+above : (n d f M : ℕ) → f * d < n + d → f * d * M ≤ n * M + n + d * M
+above n d f M h =
+    let e : f * d * M ≤ (n + d) * M = mul-le-mul-right {m = f * d} {n = n + d} M (omega arith) in
+    omega arith
+
+pub bounds-of-ceiling : (m : ℕ) (p : Ratio) → 0 < p .lower → WithinBounds m p (roundedUp p)
+bounds-of-ceiling m p h =
+    let z = ceiling-zero (p .upper) (p .lower) h in
+    record {
+      never-below = ceiling-not-below (p .upper) (p .lower) h;
+      not-far-above = above (p .upper) (p .lower) (roundedUp p) (2 ^ m) (ceiling-less-than-one-above (p .upper) (p .lower) h);
+      zero-only = z .0;
+      zero-then = z .1;
+    }
+
+-- ── a call of `work_out`
+
+-- any lifetimes, arguments, result and parameters at exit of which its contract's promise holds
+pub record Call : Type 0 where
+  pub lifetimes : Lfts 1
+  pub args : kinds.Dens lifetimes work-out-kinds.ps
+  pub result : kinds.resT work-out-kinds.r lifetimes .Denot
+  pub ends : AtExit (kinds.endedOf 1 work-out-kinds.ps work-out-kinds.r) lifetimes
+  pub kept : work-out-reads.Learnt lifetimes args result ends
+
+pub met : {M : Type 1} → work-out-statement.statement M
+met = work-out-met.met
+
+-- the bytes of the case that it was called on
+abbrev pub bytes : Call → List ℕ
+bytes c = now (c .args .0)
+
+pub figure-exact : (c : Call) → c .result .refusal ≡ 0 → c .result .figures ≡ map roundedUp (exactValues (bytes c))
+figure-exact c e = c .kept .1 ∙ figures-exact (bytes c) (sym (c .kept .0) ∙ e)
+
+each : (c : Call) → c .result .refusal ≡ 0 → (i : ℕ) → getD (c .result .figures) i 0 ≡ roundedUp (getD (exactValues (bytes c)) i (0 over 1))
+unfolding ceiling
+each c e i = ap (λ (l : List ℕ). getD l i 0) (figure-exact c e) ∙ List·getD-map roundedUp (exactValues (bytes c)) i (0 over 1)
+
+-- at any margin
+pub figure-bounds-at : (m : ℕ) (c : Call) → c .result .refusal ≡ 0 → (i : ℕ) → i < 4 → WithinBounds m (getD (exactValues (bytes c)) i (0 over 1)) (getD (c .result .figures) i 0)
+figure-bounds-at m c e i h =
+    rw (each c e i) (bounds-of-ceiling m (getD (exactValues (bytes c)) i (0 over 1)) (lower-not-zero (bytes c) (sym (c .kept .0) ∙ e) i h))
+
+pub figure-bounds : (c : Call) → c .result .refusal ≡ 0 → (i : ℕ) → i < 4 → WithinBounds margin (getD (exactValues (bytes c)) i (0 over 1)) (getD (c .result .figures) i 0)
+figure-bounds = figure-bounds-at margin
+
+pub zero-iff : (c : Call) → c .result .refusal ≡ 0 → (i : ℕ) → i < 4
+    → (getD (c .result .figures) i 0 ≡ 0 → getD (exactValues (bytes c)) i (0 over 1) .upper ≡ 0) × (getD (exactValues (bytes c)) i (0 over 1) .upper ≡ 0 → getD (c .result .figures) i 0 ≡ 0)
+zero-iff c e i h = let w = figure-bounds c e i h in (w .zero-only, w .zero-then)

@@ -1,0 +1,111 @@
+// The daily emissions of a case: four figures in whole micrograms, each its exact value rounded up once.
+// specs/ says what the exact values are; `product` multiplies, `equations` has the seven kinds.
+ghost use mathlib.Core.Path.{_≡_};
+ghost use mathlib.Core.Bool.{cond};
+ghost use mathlib.Core.List.{[], _∷_};
+ghost use lib.Dec.{eqb};
+ghost use Rattle.scenario.specs.Case.{refusalOf};
+ghost use Rattle.emission.specs.Ratio.{roundedUp};
+ghost use Rattle.emission.specs.Equations.{toWater, toAir, toSoil};
+ghost use Rattle.emission.specs.Figures.{micrograms, figuresOf};
+ghost use Rattle.emission.specs.Ranges.{InRange};
+use equations::Emissions;
+use scenario::Case;
+use scenario::Decoded;
+use scenario::Head;
+
+pub mod constants;
+pub mod equations;
+pub mod product;
+
+fn only_water(figure: u64) -> Emissions
+    ensures { λ r. ⌜ (r .water ≡ figure) × (r .air ≡ roundedUp (micrograms [])) × (r .soil ≡ roundedUp (micrograms [])) ⌝ }
+{
+    Emissions {
+        water: figure,
+        air: 0,
+        soil: 0,
+    }
+}
+
+fn emissions_of(case: Case, head: Head) -> Emissions
+    requires { ⌜ InRange case head ⌝ }
+    ensures { λ r. ⌜ (r .water ≡ roundedUp (micrograms (toWater case head))) × (r .air ≡ roundedUp (micrograms (toAir case head))) × (r .soil ≡ roundedUp (micrograms (toSoil case head))) ⌝ }
+{
+    match case {
+        Case::Measured {
+            early,
+            late,
+            share,
+            site,
+        } => only_water(equations::measured(early, late, share, site, head)),
+        Case::Unknown {
+            active,
+            share,
+            site,
+        } => only_water(equations::unknown(active, share, site, head)),
+        Case::Application { active, site } => only_water(equations::application(
+            active,
+            site,
+            head,
+        )),
+        Case::Sanitary {
+            tonnage,
+            disintegrated,
+            to_water,
+        } => only_water(equations::sanitary(tonnage, disintegrated, to_water, head)),
+        Case::Formulation {
+            tonnage,
+            main_source,
+            to_water,
+            to_air,
+            to_soil,
+        } => equations::formulation(tonnage, main_source, to_water, to_air, to_soil, head),
+        Case::Hygiene {
+            active,
+            penetration,
+            grams,
+            uses,
+            share,
+        } => only_water(equations::consumption(active, penetration, grams, uses, share, head)),
+        Case::Toilets {
+            dose,
+            active,
+            density,
+            disintegrated,
+            to_plant,
+        } => only_water(equations::toilets(dose, active, density, disintegrated, to_plant, head)),
+    }
+}
+
+// STP, surface water, air, soil: water goes by route.
+fn by_route(route: u8, e: Emissions) -> [u64; 4]
+    ensures { λ r. ⌜ r ≡ cond (eqb route 1) (e .water ∷ 0 ∷ e .air ∷ e .soil ∷ []) (0 ∷ e .water ∷ e .air ∷ e .soil ∷ []) ⌝ }
+{
+    if route == 1 {
+        [e.water, 0, e.air, e.soil]
+    } else {
+        [0, e.water, e.air, e.soil]
+    }
+}
+
+pub struct Worked {
+    pub refusal: u32,
+    pub figures: [u64; 4],
+}
+
+// The four figures of a case, or the first refusal that holds, with zeros beside it.
+pub fn work_out(case: &[u8]) -> Worked
+    ensures { λ r. ⌜ (r .refusal ≡ refusalOf (now (case .entry))) × (r .figures ≡ figuresOf (now (case .entry))) ⌝ }
+{
+    match scenario::decode(case) {
+        Decoded::Refused(number) => Worked {
+            refusal: number,
+            figures: [0, 0, 0, 0],
+        },
+        Decoded::Accepted { head, case } => Worked {
+            refusal: 0,
+            figures: by_route(head.route, emissions_of(case, head)),
+        },
+    }
+}
