@@ -9,19 +9,18 @@
 -- Ratios alone are in Ratios, a product in limbs in Limbs, the constants of the rows in Tables.
 use mathlib.Core.Path.{_≡_, refl, sym, ap, _∙_}
 use mathlib.Core.List.{List, [], _∷_, _++_, map}
-use Prim.Native.Nat.{ℕ, _+_, _-_, _*_, _≤_, _<_, min}
+use Prim.Native.Nat.{ℕ, _+_, _*_, _≤_, _<_, min}
 use native.Mathlib.Nat.{mul-pos}
 use native.Mathlib.Omega.{arith}
 use lib.Pow.{pow-pos}
-use lib.Ieee.{Float, binary64, toBits}
-use Rattle.binary64.specs.Quantity.{whole, one}
+use lib.Ieee.{Float}
 use Rattle.natural.specs.Value.{productOf}
 use Rattle.emission.specs.Ratio.{Ratio, _over_, _·_, _⊕_, oneLess, exactly, Same, roundedUp}
 use Rattle.emission.specs.Equations.{Factor, number, quantity, less, factor, chain, total}
 use Rattle.emission.specs.Figures.{microgram, micrograms}
 use Rattle.emission.specs.Constants.{numbers}
 use Rattle.emission.specs.Ranges.{UpTo, Within}
-use Rattle.emission.proofs.Ratios.{same-of, times-assoc, times-swap, times-comm, times-one, plus-zero, distributes-left, same-scaled, same-trans, same-times, same-plus, distributes, rounded-same, AtMost, at-most-times, at-most-plus, scaled-fits}
+use Rattle.emission.proofs.Ratios.{same-of, times-assoc, times-swap, times-comm, times-one, plus-zero, distributes-left, same-scaled, same-trans, same-times, same-plus, distributes, rounded-same, AtMost, one-less-at-most, at-most-times, at-most-plus, scaled-fits}
 
 -- ── a chain's factors other than its numbers
 
@@ -107,10 +106,7 @@ chain-at-most (x ∷ xs) (m ∷ ms) w = at-most-times (exactly x) (chain (map qu
 -- after 1 less a quantity
 pub remainder-at-most : (x : Float) (xs : List Float) (ms : List ℕ) → Within xs ms → AtMost (chain (less x ∷ map quantity xs)) (1 * productOf ms)
 unfolding chain
-remainder-at-most x xs ms w = at-most-times (oneLess (exactly x)) (chain (map quantity xs)) 1 (productOf ms) (go one (whole (toBits binary64 x))) (chain-at-most xs ms w)
-  where
-    go : (o w : ℕ) → o - w ≤ 1 * o
-    go o w = omega arith
+remainder-at-most x xs ms w = at-most-times (oneLess (exactly x)) (chain (map quantity xs)) 1 (productOf ms) (one-less-at-most (exactly x)) (chain-at-most xs ms w)
 
 -- after a sum of two
 pub sum-at-most : (a b : Float) (m n : ℕ) (xs : List Float) (ms : List ℕ) → UpTo m a → UpTo n b → Within xs ms → AtMost ((exactly a ⊕ exactly b) · chain (map quantity xs)) ((m + n) * productOf ms)

@@ -4,7 +4,7 @@
 --   same-times, same-scaled, same-plus               and kept by products and sums
 --   distributes, distributes-left                    a product of a sum is a sum of products
 --   rounded-same                                     the same value is rounded up to the same number
---   AtMost, at-most-times, at-most-plus              a value is at most a whole number
+--   AtMost, one-less-at-most, at-most-times, at-most-plus   a value is at most a whole number
 --   scaled-fits                                      k over d of a value, rounded up, is at most M
 -- Chains of factors are in Chains.
 use mathlib.Core.Path.{_≡_, refl, sym, ap, _∙_}
@@ -12,7 +12,7 @@ use Prim.Native.Nat.{ℕ, _+_, _*_, _≤_, _<_}
 use native.Mathlib.Nat.{mul-one, mul-assoc, mul-comm, mul-left-comm, mul-pos, eq-of-mul-eq-mul-right, mul-le-mul, mul-le-mul-right}
 use native.Mathlib.Omega.{arith}
 use Rattle.natural.proofs.Ceiling.{ceiling-same, ceiling-at-most}
-use Rattle.emission.specs.Ratio.{Ratio, _over_, _·_, _⊕_, Same, roundedUp}
+use Rattle.emission.specs.Ratio.{Ratio, _over_, _·_, _⊕_, oneLess, Same, roundedUp}
 
 -- ── equal number by number
 
@@ -96,6 +96,9 @@ rounded-same p q h g e = ceiling-same (p .upper) (p .lower) (q .upper) (q .lower
 
 abbrev pub AtMost : Ratio → ℕ → Type 0
 AtMost p m = p .upper ≤ m * p .lower
+
+pub one-less-at-most : (p : Ratio) → AtMost (oneLess p) 1
+one-less-at-most p = omega arith
 
 regroup : (m b n d : ℕ) → m * b * (n * d) ≡ m * n * (b * d)
 regroup m b n d = omega arith

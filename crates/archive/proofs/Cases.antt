@@ -1,0 +1,42 @@
+-- What this crate uses of a case within the ranges: `case-size`, `sized-line`, `storable-line` (its line can be a record).
+use mathlib.Core.Path.{_≡_, refl, ap, _∙_}
+use mathlib.Core.Bool.{Bool, true, false, cond}
+use mathlib.Core.List.{List, [], _∷_}
+use Prim.Native.Nat.{ℕ, zero, suc, _^_, _<_}
+use native.Mathlib.Omega.{arith}
+use lib.Dec.{eqb}
+use lib.ListN.{length, getD, length-map}
+use Rattle.scenario.specs.Case.{routeOf, refusalOf}
+use Rattle.scenario.proofs.Passed.{passed}
+use Rattle.emission.specs.Ratio.{Ratio, roundedUp}
+use Rattle.emission.specs.Figures.{exactValues, figuresOf}
+use Rattle.emission.proofs.Accepted.{figures-exact}
+use Rattle.archive.specs.Archive.{lineFor}
+use Rattle.archive.proofs.FigureSize.{figures-fit}
+use Rattle.archive.proofs.RecordLaws.{Fit, Sized, Storable}
+
+pub case-size : (c : List ℕ) → refusalOf c ≡ 0 → length c ≡ 64
+case-size c e = passed c e .sixty-four
+
+four-either : (t : Bool) (p q : List Ratio) → length p ≡ 4 → length q ≡ 4 → length (cond t p q) ≡ 4
+four-either true p q e f = e
+four-either false p q e f = f
+
+four-values : (c : List ℕ) → length (exactValues c) ≡ 4
+unfolding exactValues
+four-values c = four-either (eqb (routeOf c) 1) _ _ refl refl
+
+four-figures : (c : List ℕ) → refusalOf c ≡ 0 → length (figuresOf c) ≡ 4
+four-figures c e = ap length (figures-exact c e) ∙ length-map (exactValues c) roundedUp ∙ four-values c
+
+pub sized-line : (c : List ℕ) → refusalOf c ≡ 0 → Sized (lineFor c)
+sized-line c e = record { case-size = case-size c e; four = four-figures c e }
+
+all-fit : (xs : List ℕ) → ((i : ℕ) → i < length xs → getD xs i 0 < 2 ^ 64) → Fit xs
+all-fit [] h = tt
+all-fit (x ∷ xs) h = (h zero (omega arith), all-fit xs (λ i l. h (suc i) (omega arith)))
+
+pub storable-line : (c : List ℕ) → refusalOf c ≡ 0 → Storable (lineFor c)
+storable-line c e =
+    let n = four-figures c e in
+    record { sized = sized-line c e; fit = all-fit (figuresOf c) (λ i l. figures-fit c e i (omega arith)) }

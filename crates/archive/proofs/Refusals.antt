@@ -1,0 +1,52 @@
+-- Laws of the refusals of this crate's calls. The laws of any list of conditions are scenario's.
+-- `compartment-within` (12 does not hold); `accepted-refused` (what stands beside a refusal).
+-- A filing's list begins with the case's own: `behind-case`, `file-refusal-is`, with `fromState` for what follows; `both-zero`, `case-refused`.
+-- That a refusal is the first that holds is in `Calls`.
+use mathlib.Core.Path.{_≡_, refl}
+use mathlib.Core.Bool.{false, cond}
+use mathlib.Core.List.{List, [], _∷_, _++_}
+use Prim.Native.Nat.{ℕ, zero, suc, _≤_}
+use native.Mathlib.Omega.{arith}
+use borrow.Author.Tests.{ltb-false, ne-eqb}
+use lib.Dec.{ltb, eqb}
+use lib.ListN.{length}
+use Rattle.scenario.specs.Refusal.{Condition, _when_, firstOf}
+use Rattle.scenario.specs.Case.{refusals, refusalOf}
+use Rattle.scenario.proofs.Bools.{neither}
+use Rattle.scenario.proofs.Refusals.{first-of-append, first-of-some}
+use Rattle.archive.specs.Lines.{accepted, held, full, notCompartment}
+use Rattle.archive.specs.Archive.{countAt, broken, linesIn, fileRefusals, fileRefusal}
+
+pub compartment-within : (m : ℕ) → notCompartment m ≡ false → (1 ≤ m) × (m ≤ 4)
+compartment-within m e = let p = neither (ltb m 1) (ltb 4 m) e in (ltb-false m 1 (p .0), ltb-false 4 m (p .1))
+
+pub accepted-refused : {A : Type 0} (r : ℕ) (a b : A) → (r ≡ 0 → ⊥) → accepted r a b ≡ b
+accepted-refused zero a b h = absurd (h refl)
+accepted-refused (suc r) a b h = refl
+
+-- ── file
+
+-- a filing's refusals from the state
+abbrev pub fromState : List ℕ → ℕ → List ℕ → List Condition
+fromState b u c = (21 when broken b u) ∷ (22 when held (linesIn b u) c) ∷ (23 when full (length b) u (countAt b u)) ∷ []
+
+-- a refusal r, or another behind it
+abbrev pub orElse : ℕ → ℕ → ℕ
+orElse r q = cond (eqb r 0) q r
+
+pub both-zero : (r q : ℕ) → orElse r q ≡ 0 → (r ≡ 0) × (q ≡ 0)
+both-zero zero q e = (refl, e)
+both-zero (suc r) q e = absurd (omega (arith, (rw (ne-eqb (suc r) 0 (λ z. omega arith)) at e)))
+
+pub behind-case : (c : List ℕ) (ds : List Condition) → firstOf (refusals c ++ ds) ≡ orElse (refusalOf c) (firstOf ds)
+unfolding refusalOf
+behind-case c ds = first-of-append (refusals c) ds refl
+
+pub file-refusal-is : (b : List ℕ) (u : ℕ) (c : List ℕ) → fileRefusal b u c ≡ orElse (refusalOf c) (firstOf (fromState b u c))
+unfolding fileRefusals
+file-refusal-is b u c = behind-case c (fromState b u c)
+
+-- a case's own refusal is file's
+pub case-refused : (b : List ℕ) (u : ℕ) (c : List ℕ) (r : ℕ) → r ≡ refusalOf c → (r ≡ 0 → ⊥) → r ≡ fileRefusal b u c
+unfolding fileRefusals refusalOf
+case-refused b u c r e h = first-of-some (refusals c) (fromState b u c) r refl e h

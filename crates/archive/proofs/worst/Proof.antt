@@ -1,0 +1,53 @@
+-- The tests are those of the list of refusals, in its order; the number is the search's.
+use mathlib.Core.Path.{sym, ap, _∙_}
+use Prim.Native.Nat.{ℕ}
+use native.Mathlib.Omega.{arith}
+use borrow.Author.Needs.{needs}
+use borrow.Author.Tests.{eq-eqb, ne-eqb}
+use Rattle.archive.specs.Layout.{decode, recordSize}
+use Rattle.archive.specs.Lines.{worstOf}
+use Rattle.archive.specs.Archive.{worstRefusals, naming}
+use Rattle.archive.specs.declared.Highest.the-variants.{Number}
+use Rattle.archive.proofs.Refusals.{compartment-within}
+use Rattle.archive.proofs.Trailer.{sound-facts}
+use Rattle.archive.proofs.worst.Statement.{statement}
+use Rattle.archive.proofs.worst.Tie as tie
+
+returns : tie.Need-returns
+unfolding worstRefusals naming
+returns c = rw (c .if1 .taken)
+
+returns-2 : tie.Need-returns-2
+unfolding worstRefusals naming
+returns-2 c = rw (c .before .before .if1 .left, sym (c .before .is-broken .ensures) ∙ c .if2 .taken)
+
+returns-3 : tie.Need-returns-3
+unfolding worstRefusals naming
+returns-3 c =
+    let s = c .before .before in
+    rw (s .before .before .if1 .left, sym (s .before .is-broken .ensures) ∙ s .if2 .left, eq-eqb _ _ (sym (c .before .count-at .ensures) ∙ c .if3 .taken))
+
+returns-4 : tie.Need-returns-4
+unfolding worstRefusals naming
+returns-4 c =
+    let n = c .before .before in
+    let s = n .before in
+    let a = s .before .before .before .before .args in
+    rw (s .before .before .if1 .left, sym (s .before .is-broken .ensures) ∙ s .if2 .left, ne-eqb _ _ (λ e. c .before .if3 .left (n .count-at .ensures ∙ e)))
+    (ap Number (c .worst-of .ensures ∙ ap (λ (m : ℕ). worstOf (a .compartment) (decode recordSize m (a .archive .now))) (n .count-at .ensures)))
+
+pub worst-spec : {M : Type 1} → statement M
+worst-spec =
+    tie.close
+    (tie.spec
+    returns
+    (λ c κs. search needs)
+    returns-2
+    (λ c κs. let s = sound-facts _ _ (sym (c .before .is-broken .ensures) ∙ c .if2 .left) in (s .at-least, s .inside))
+    returns-3
+    (λ c κs.
+    let d = c .before .before in
+    let s = sound-facts _ _ (sym (d .before .is-broken .ensures) ∙ d .if2 .left) in
+    let m = compartment-within _ (d .before .before .if1 .left) in
+    (omega (arith, c .before .count-at .ensures, s .length-is, s .inside), m .0, m .1))
+    returns-4)

@@ -1,0 +1,45 @@
+-- What each enum says in the paper's numbers: refusal, record number, used length.
+-- Paper 01, 'From the state': "the places for figures and record number hold 0 beside it …; the used length comes back as given (empty: 0)".
+use mathlib.Core.List.{List}
+use Prim.Native.Nat.{ℕ}
+use Rattle.archive.specs.Lines.{accepted}
+use Rattle.archive.specs.declared.Emptied.{Emptied}
+use Rattle.archive.specs.declared.Emptied.the-variants.{Used, Refused}
+use Rattle.archive.specs.declared.Filing.{Filing}
+use Rattle.archive.specs.declared.Filing.the-variants.{Filed, Refused as NotFiled}
+use Rattle.archive.specs.declared.Highest.{Highest}
+use Rattle.archive.specs.declared.Highest.the-variants.{Number, Refused as NotNamed}
+
+-- What a call gives back. The refusal is 0 where the call is accepted.
+pub data Answer : Type 0 where
+  emptied : (refusal used : ℕ) → Answer
+  filed : (refusal number used : ℕ) → Answer
+  shown : (refusal : ℕ) (part : List ℕ) → Answer
+  named : (refusal number : ℕ) → Answer
+
+abbrev pub ofEmptied : Emptied → Answer
+ofEmptied (Used v) = emptied 0 v
+ofEmptied (Refused r) = emptied r 0
+
+-- of a filing that was given the used length u
+abbrev pub ofFiling : Filing → ℕ → Answer
+ofFiling (Filed k v) u = filed 0 k v
+ofFiling (NotFiled r) u = filed r 0 u
+
+abbrev pub ofHighest : Highest → Answer
+ofHighest (Number k) = named 0 k
+ofHighest (NotNamed r) = named r 0
+
+-- the refusal of an answer, 0 for none
+abbrev pub refusalIn : Answer → ℕ
+refusalIn (emptied r v) = r
+refusalIn (filed r k v) = r
+refusalIn (shown r p) = r
+refusalIn (named r k) = r
+
+-- The used length that is handed on: that of the last accepted empty or file.
+abbrev pub handed : Answer → ℕ → ℕ
+handed (emptied r v) u = accepted r v u
+handed (filed r k v) u = accepted r v u
+handed (shown r p) u = u
+handed (named r k) u = u

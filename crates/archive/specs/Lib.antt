@@ -1,0 +1,7 @@
+-- What a reader of this crate must believe, in the order of paper 01: definitions only. Theorems about them stand in proofs/.
+pub mod Layout
+pub mod Fields
+pub mod Lines
+pub mod Archive
+pub mod Answers
+pub mod Called

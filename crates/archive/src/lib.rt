@@ -1,0 +1,125 @@
+// The archive in a lent slice: records of 96 bytes, then a trailer of 16. Each call is total: it answers, or refuses by number.
+// specs/ says when each refusal holds, what each call answers, and which bytes it leaves.
+ghost use mathlib.Core.Path.{_≡_};
+ghost use Rattle.scenario.specs.Case.{refusalOf};
+ghost use Rattle.archive.specs.Archive.{emptying, emptyBytes, filing, fileBytes, fileRefusal, showRefusal, showPart, naming, recordFigures};
+use emission::work_out;
+
+pub mod records;
+pub mod search;
+
+pub enum Emptied {
+    Used(u64),
+    Refused(u32),
+}
+
+pub enum Filing {
+    Filed { number: u64, used: u64 },
+    Refused(u32),
+}
+
+// The record with the highest figure.
+pub enum Highest {
+    Number(u64),
+    Refused(u32),
+}
+
+pub fn empty(archive: &mut [u8]) -> Emptied
+    ensures { λ r. ⌜ (r ≡ emptying (now (archive .entry))) × (now (archive .exit) ≡ emptyBytes (now (archive .entry))) ⌝ }
+{
+    if archive.len() < records::TRAILER_SIZE {
+        return Emptied::Refused(23);
+    }
+    records::put_trailer(archive, 0, 0);
+    Emptied::Used(records::TRAILER_SIZE as u64)
+}
+
+// File's refusal, 0 for none, where the case's own refusal is known.
+fn file_refusal(archive: &[u8], used: u64, case: &[u8], refusal: u32) -> u32
+    requires { ⌜ refusal ≡ refusalOf (now case) ⌝ }
+    ensures { λ r. ⌜ r ≡ fileRefusal (now (archive .entry)) used (now (case .entry)) ⌝ }
+{
+    if refusal != 0 {
+        return refusal;
+    }
+    if records::is_broken(archive, used) {
+        return 21;
+    }
+    let n = records::count_at(archive, used);
+    if search::is_held(archive, n, case) {
+        return 22;
+    }
+    if (archive.len() as u64 - used < records::RECORD_SIZE as u64) | (n == records::MOST_RECORDS) {
+        return 23;
+    }
+    0
+}
+
+// Works the case out and files it with its figures.
+pub fn file(archive: &mut [u8], used: u64, case: &[u8]) -> Filing
+    ensures { λ r. ⌜ (r ≡ filing (now (archive .entry)) used (now (case .entry))) × (now (archive .exit) ≡ fileBytes (now (archive .entry)) used (now (case .entry))) ⌝ }
+{
+    let worked = work_out(case);
+    let refusal = file_refusal(archive, used, case, worked.refusal);
+    if refusal != 0 {
+        return Filing::Refused(refusal);
+    }
+    let figures = worked.figures;
+    let n = records::count_at(archive, used);
+    records::put_line(archive, n, case, figures);
+    Filing::Filed {
+        number: n as u64,
+        used: used + records::RECORD_SIZE as u64,
+    }
+}
+
+// Show's refusal, 0 for none.
+pub fn show_refusal(archive: &[u8], used: u64, number: u64) -> u32
+    ensures { λ r. ⌜ r ≡ showRefusal (now (archive .entry)) used number ⌝ }
+{
+    if records::is_broken(archive, used) {
+        return 21;
+    }
+    if records::count_at(archive, used) as u64 <= number {
+        return 24;
+    }
+    0
+}
+
+// The record of a number as a part of the archive, an empty part if refused.
+pub fn show(archive: &[u8], used: u64, number: u64) -> &[u8]
+    ensures { λ r. ⌜ now r ≡ showPart (now (archive .entry)) used number ⌝ }
+{
+    if show_refusal(archive, used, number) != 0 {
+        return &archive[0..0];
+    }
+    let at = records::RECORD_SIZE * (number as usize);
+    &archive[at..at + records::RECORD_SIZE]
+}
+
+// The number of the record with the highest figure in a compartment from 1 to 4, the first filed among equals.
+pub fn worst(archive: &[u8], used: u64, compartment: u64) -> Highest
+    ensures { λ r. ⌜ r ≡ naming (now (archive .entry)) used compartment ⌝ }
+{
+    if (compartment < 1) | (4 < compartment) {
+        return Highest::Refused(12);
+    }
+    if records::is_broken(archive, used) {
+        return Highest::Refused(21);
+    }
+    let n = records::count_at(archive, used);
+    if n == 0 {
+        return Highest::Refused(24);
+    }
+    Highest::Number(search::worst_of(archive, n, compartment as usize) as u64)
+}
+
+// The four figures of a record; zeros of a slice that is too short to be one.
+pub fn figures_of(bytes: &[u8]) -> [u64; 4]
+    ensures { λ r. ⌜ r ≡ recordFigures (now (bytes .entry)) ⌝ }
+{
+    if bytes.len() < records::RECORD_SIZE {
+        return [0, 0, 0, 0];
+    }
+    records::figures_at(bytes)
+}

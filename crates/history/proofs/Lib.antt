@@ -1,0 +1,3 @@
+-- The theorem over every history, and what keeps it from being empty.
+pub mod Turns
+pub mod Demand3

@@ -1,0 +1,2 @@
+-- The used length that this program hands on.
+pub mod Used
