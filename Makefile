@@ -1,14 +1,65 @@
-# make test     the whole check: layout of the files, then every proof, must-fail edit and program run, from nothing
-# make check    the same proofs, but only of what changed since the last run
-# make fmt      lay out every .rt and .antt file
-.PHONY: test check fmt
+# make test     everything: the C interface and the host side against an independent model, then every proof, must-fail edit
+#               and program from nothing; the last line is the toolchain's 'N passed, M failed'
+# make check    the proofs, of what changed since the last run only, and the programs
+# make lib      the static library target/staticlib/libcsorvelin.a, proved before it is built
+# make run      builds the library and the command, and shows the main job on an example
+# make bench    times beside peers in C, and over GMP where its development files are there
+# make fmt      lays out every .rt and .antt file
+.PHONY: test check lib c-test host host-test run bench fmt
 
-test:
+CFLAGS = -std=c11 -O2 -Wall -Wextra -Wpedantic -Werror
+LIB = target/staticlib/libcsorvelin.a
+GMP := $(shell printf '\043include <gmp.h>\n' | $(CC) -E - >/dev/null 2>&1 && echo yes)
+HOST = --quiet --offline --release --manifest-path host/Cargo.toml
+COMMAND = ../../host/target/release/csorvelin
+DEMO = target/demo
+
+test: c-test host-test
 	@rt fmt --check
 	@rt ci
 
 check:
 	@rt check
+
+lib:
+	@mkdir -p target
+	@rt staticlib csorvelin >target/lib.log 2>&1 || { cat target/lib.log; exit 1; }
+
+c-test: lib
+	@mkdir -p target/c
+	@$(CC) $(CFLAGS) -Iinclude tests/c/interface.c $(LIB) -o target/c/interface
+	@target/c/interface >target/c/interface.out
+	@diff tests/c/interface.expected target/c/interface.out
+	@echo 'c-test: the C interface answers as expected'
+
+host: lib
+	@cargo build $(HOST)
+
+host-test: lib
+	@cargo test $(HOST)
+
+# Prints a command line and runs it in the folder of the example.
+shown = echo; echo '$$ csorvelin $(1)'; cd $(DEMO) && $(COMMAND) $(1)
+
+run: host
+	@rm -rf $(DEMO) && mkdir -p $(DEMO)
+	@$(call shown,new archive)
+	@$(call shown,file archive kind=4 row=1 dossier=7 a=100 c=1)
+	@$(call shown,file archive kind=2 row=3 route=2 dossier=8 a=0.001 c=0.5)
+	@$(call shown,file archive kind=6 row=1 dossier=9 a=1.5 b=0.5) 2>&1 || echo "exit status $$?"
+	@$(call shown,list archive)
+	@$(call shown,worst archive surface)
+	@$(call shown,explain archive 0)
+
+bench: lib
+	@mkdir -p target/c
+ifeq ($(GMP),yes)
+	@$(CC) $(CFLAGS) -DWITH_GMP -Iinclude -Ibench bench/bench.c bench/peer_scan.c bench/peer_gmp.c $(LIB) -lgmp -o target/c/bench
+else
+	@echo 'bench: gmp.h is not there (Debian: libgmp-dev); work out is not measured'
+	@$(CC) $(CFLAGS) -Iinclude -Ibench bench/bench.c bench/peer_scan.c $(LIB) -o target/c/bench
+endif
+	@target/c/bench
 
 fmt:
 	@rt fmt

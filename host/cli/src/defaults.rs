@@ -1,0 +1,106 @@
+//! The default tables with their sources.
+
+use crate::json::Json;
+use csorvelin_model::tables::{self, CityRow, DefaultValue, HygieneRow};
+
+pub fn text() -> String {
+    let mut text = "Source documents (l. is a line of the text copy)\n".to_string();
+    for (number, title) in tables::DOCUMENTS {
+        text += &format!("  {number}  {title}\n");
+    }
+    text +=
+        "\nCity rows, kinds 1 to 3: life L in days, area A in m2, density R in kg/m3, volume V in L/m2, houses per \
+             day N (kind 3)\n";
+    for city in tables::CITY_ROWS {
+        text += &city_text(&city);
+    }
+    text += "\nHygiene rows, kind 6: grams per use G, uses per day M, share of inhabitants H\n";
+    for hygiene in tables::HYGIENE_ROWS {
+        text += &hygiene_text(&hygiene);
+    }
+    text += "\nOther defaults of the equations\n";
+    for (kinds, meaning, default) in tables::CONSTANTS {
+        text += &format!("  kind {kinds:<5}{:<7}{meaning}  [{}]\n", default.decimal, default.source);
+    }
+    text += "\nWhat the documents suggest for quantities that a case gives itself (never filled in by csorvelin)\n";
+    for (kind, quantity, meaning, default) in tables::SUGGESTIONS {
+        text += &format!("  kind {kind:<5}{:<7}{quantity}, {meaning}  [{}]\n", default.decimal, default.source);
+    }
+    text
+}
+
+fn city_text(city: &CityRow) -> String {
+    let CityRow { row, name, life, area, density, volume, houses } = city;
+    format!(
+        "  {row}  {name:<23}L {:<6}A {:<6}R {:<6}V {:<6}N {}\n     L [{}]  A [{}]\n     R, V [{}]  N [{}]\n",
+        life.decimal,
+        area.decimal,
+        density.decimal,
+        volume.decimal,
+        houses.decimal,
+        life.source,
+        area.source,
+        density.source,
+        houses.source
+    )
+}
+
+fn hygiene_text(hygiene: &HygieneRow) -> String {
+    let HygieneRow { row, name, grams, uses, share } = hygiene;
+    let (g, m, h, source) = (grams.decimal, uses.decimal, share.decimal, grams.source);
+    format!("  {row}  {name:<23}G {g:<6}M {m:<6}H {h:<6}[{source}]\n")
+}
+
+pub fn json() -> Json {
+    let documents = tables::DOCUMENTS.iter().map(|(number, title)| (number.to_string(), Json::from(*title)));
+    let constants = tables::CONSTANTS.iter().map(|(kinds, meaning, default)| {
+        Json::object([
+            ("kinds", Json::from(*kinds)),
+            ("meaning", Json::from(*meaning)),
+            ("value", Json::from(default.decimal)),
+            ("source", Json::from(default.source)),
+        ])
+    });
+    let suggestions = tables::SUGGESTIONS.iter().map(|(kind, quantity, meaning, default)| {
+        Json::object([
+            ("kind", Json::from(*kind)),
+            ("quantity", Json::from(quantity.to_string())),
+            ("meaning", Json::from(*meaning)),
+            ("value", Json::from(default.decimal)),
+            ("source", Json::from(default.source)),
+        ])
+    });
+    Json::object([
+        ("documents", Json::Object(documents.collect())),
+        ("city", Json::list(tables::CITY_ROWS.iter().map(city_json))),
+        ("hygiene", Json::list(tables::HYGIENE_ROWS.iter().map(hygiene_json))),
+        ("constants", Json::list(constants)),
+        ("suggestions", Json::list(suggestions)),
+    ])
+}
+
+fn city_json(city: &CityRow) -> Json {
+    Json::object([
+        ("row", Json::from(city.row)),
+        ("name", Json::from(city.name)),
+        ("L", default_json(&city.life)),
+        ("A", default_json(&city.area)),
+        ("R", default_json(&city.density)),
+        ("V", default_json(&city.volume)),
+        ("N", default_json(&city.houses)),
+    ])
+}
+
+fn hygiene_json(hygiene: &HygieneRow) -> Json {
+    Json::object([
+        ("row", Json::from(hygiene.row)),
+        ("name", Json::from(hygiene.name)),
+        ("G", default_json(&hygiene.grams)),
+        ("M", default_json(&hygiene.uses)),
+        ("H", default_json(&hygiene.share)),
+    ])
+}
+
+fn default_json(default: &DefaultValue) -> Json {
+    Json::object([("value", Json::from(default.decimal)), ("source", Json::from(default.source))])
+}

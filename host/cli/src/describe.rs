@@ -1,0 +1,127 @@
+//! A case and its figures as text and as JSON.
+
+use crate::json::Json;
+use crate::numbers;
+use csorvelin_binding::{Case, Figures};
+use csorvelin_model::case::QUANTITIES;
+use csorvelin_model::{ranges, tables};
+
+pub const FIGURE_NAMES: [&str; 4] = ["stp", "surface", "air", "soil"];
+
+/// A line for each field of a case that carries something, quantities with the exact value taken.
+pub fn case_text(case: &Case, typed: &[Option<String>; 6]) -> String {
+    let mut text = String::new();
+    let mut line = |name: &str, value: String, note: &str| {
+        let line = format!("{name:<9}{value}  {note}");
+        text += line.trim_end();
+        text += "\n";
+    };
+    line("kind", case.kind.to_string(), kind_name(case.kind));
+    line("row", case.row.to_string(), row_name(case.kind, case.row));
+    line("route", case.route.to_string(), route_name(case.route));
+    if case.user != 0 {
+        line("user", case.user.to_string(), user_name(case.user));
+    }
+    if case.count != 0 {
+        line("T", case.count.to_string(), ranges::count_meaning(case.kind));
+    }
+    line("dossier", case.dossier.to_string(), "");
+    for (index, name) in QUANTITIES.iter().enumerate() {
+        let meaning = meaning(case, index);
+        if meaning.is_some() || case.patterns[index] != 0 {
+            let value = taken(case.patterns[index], typed[index].as_deref());
+            line(&name.to_string(), value, &meaning.unwrap_or_default());
+        }
+    }
+    text
+}
+
+/// The exact value of a quantity, its pattern, and how it lies to the decimal that was typed.
+fn taken(pattern: u64, typed: Option<&str>) -> String {
+    let exact = numbers::exact_pattern(pattern);
+    let aside = typed.and_then(|typed| numbers::deviation(typed, pattern).map(|side| format!(", {side} {typed}")));
+    format!("{exact} ({pattern:#018x}{})", aside.unwrap_or_default())
+}
+
+/// Meaning and unit of a quantity that the case's kind and row carry.
+fn meaning(case: &Case, index: usize) -> Option<String> {
+    let listed = ranges::listed(case.kind, case.row).into_iter().find(|listed| listed.index == index)?;
+    Some(match listed.unit {
+        "" => listed.meaning.to_string(),
+        unit => format!("{}, {unit}", listed.meaning),
+    })
+}
+
+pub fn kind_name(kind: u8) -> &'static str {
+    ranges::KIND_NAMES.get(usize::from(kind).wrapping_sub(1)).copied().unwrap_or("")
+}
+
+fn row_name(kind: u8, row: u8) -> &'static str {
+    match (kind, row) {
+        (1..=3, 1..) => tables::city_row(row).map_or("", |city| city.name),
+        (6, 1..) => tables::hygiene_row(row).map_or("", |hygiene| hygiene.name),
+        (4 | 7, 1) => "defaults of the document",
+        (_, 0) => "values of the case",
+        _ => "",
+    }
+}
+
+fn route_name(route: u8) -> &'static str {
+    match route {
+        1 => "to the sewage treatment plant (STP)",
+        2 => "by separated rain sewer to surface water",
+        _ => "",
+    }
+}
+
+fn user_name(user: u8) -> &'static str {
+    match user {
+        1 => "professional",
+        2 => "not professional",
+        _ => "",
+    }
+}
+
+pub fn figures_text(figures: Figures) -> String {
+    let mut text = String::new();
+    for (name, figure) in FIGURE_NAMES.iter().zip(<[u64; 4]>::from(figures)) {
+        text += &format!("{name:<9}{}\n", figure_text(figure));
+    }
+    text
+}
+
+/// A figure in micrograms, with milligrams and kilograms beside.
+pub fn figure_text(figure: u64) -> String {
+    let (milligrams, kilograms) = (numbers::milligrams(figure), numbers::kilograms(figure));
+    format!("{figure} µg per day = {milligrams} mg = {kilograms} kg")
+}
+
+pub fn case_json(case: &Case) -> Json {
+    let quantities = QUANTITIES.iter().zip(case.patterns).map(|(name, pattern)| {
+        let value = Json::object([
+            ("pattern", Json::from(format!("{pattern:#018x}"))),
+            ("exact", Json::from(numbers::exact_pattern(pattern))),
+        ]);
+        (name.to_string(), value)
+    });
+    Json::object([
+        ("kind", Json::from(case.kind)),
+        ("row", Json::from(case.row)),
+        ("route", Json::from(case.route)),
+        ("user", Json::from(case.user)),
+        ("T", Json::from(case.count)),
+        ("dossier", Json::from(case.dossier)),
+        ("quantities", Json::Object(quantities.collect())),
+        ("bytes", Json::from(hex(&case.to_bytes()))),
+    ])
+}
+
+/// The figures in micrograms per day.
+pub fn figures_json(figures: Figures) -> Json {
+    let entries = FIGURE_NAMES.iter().zip(<[u64; 4]>::from(figures));
+    Json::Object(entries.map(|(name, figure)| (name.to_string(), Json::from(figure))).collect())
+}
+
+pub fn hex(bytes: &[u8]) -> String {
+    bytes.iter().map(|byte| format!("{byte:02x}")).collect()
+}

@@ -1,0 +1,101 @@
+//! The calculation sheet: enough to work each figure again by hand.
+
+use crate::describe::{self, figure_text, FIGURE_NAMES};
+use crate::json::Json;
+use crate::numbers;
+use csorvelin_model::equations::{product, Chain, Factor, Sheet, COMPARTMENTS};
+use csorvelin_model::ratio::Ratio;
+use csorvelin_model::tables;
+
+/// Values are padded to one column up to this width.
+const MOST_PADDED: usize = 24;
+
+pub fn text(sheet: &Sheet, figures: [u64; 4]) -> String {
+    let mut text = format!("equation {}  (kg per day)\n         [{}]\n", sheet.equation, sheet.source);
+    for (compartment, name) in COMPARTMENTS.iter().enumerate() {
+        let chains = &sheet.emissions[compartment];
+        if chains.is_empty() {
+            text += &format!("\nTo {name}: no equation, figure 0\n");
+            continue;
+        }
+        text += &format!("\nTo {name}:\n");
+        for chain in chains {
+            text += &chain_text(chain);
+            if chains.len() > 1 {
+                text += &format!("  = {} kg per day, to be added\n", product(chain));
+            }
+        }
+        text += &rounding_text(&sheet.kilograms(compartment), &sheet.micrograms(compartment), figures[compartment]);
+    }
+    text + "\n" + &documents(sheet)
+}
+
+/// A line for each factor: sign, symbol, exact value, meaning, source. A symbol that is the value itself is left out.
+fn chain_text(chain: &Chain) -> String {
+    let width = |column: &dyn Fn(&Factor) -> String| chain.iter().map(|factor| column(factor).chars().count()).max();
+    let symbols = width(&|factor| factor.symbol.clone()).unwrap_or(0);
+    let values = width(&|factor| numbers::exact(&factor.value)).unwrap_or(0).min(MOST_PADDED);
+    let mut text = String::new();
+    for (index, factor) in chain.iter().enumerate() {
+        let sign = match (factor.divides, index) {
+            (true, _) => "/",
+            (false, 0) => " ",
+            (false, _) => "×",
+        };
+        let Factor { symbol, meaning, source, .. } = factor;
+        let value = numbers::exact(&factor.value);
+        let symbol = if *symbol == value { "" } else { symbol };
+        text += &format!("  {sign} {symbol:<symbols$}  {value:<values$}  {meaning}  [{source}]\n");
+    }
+    text
+}
+
+/// The exact fraction, and the one rounding up.
+fn rounding_text(kilograms: &Ratio, micrograms: &Ratio, figure: u64) -> String {
+    let (whole, rest) = micrograms.mixed();
+    let exact = if rest.is_zero() {
+        format!("{whole} µg per day, a whole number")
+    } else {
+        format!("{whole} + {rest} µg per day, rounded up")
+    };
+    format!("  = {kilograms} kg per day\n  = {exact}\n  figure {}\n", figure_text(figure))
+}
+
+/// The titles of the documents that the sheet names.
+fn documents(sheet: &Sheet) -> String {
+    let sources = sheet.emissions.iter().flatten().flatten().map(|factor| factor.source);
+    let sources: Vec<&str> = sources.chain([sheet.source]).collect();
+    let named = tables::DOCUMENTS.iter().filter(|(number, _)| sources.iter().any(|source| source.starts_with(number)));
+    named.map(|(number, title)| format!("{number}  {title}\n")).collect()
+}
+
+pub fn json(sheet: &Sheet, figures: [u64; 4]) -> Json {
+    let emissions = (0..4).map(|compartment| {
+        let chains = sheet.emissions[compartment].iter();
+        Json::object([
+            ("compartment", Json::from(FIGURE_NAMES[compartment])),
+            ("terms", Json::list(chains.map(|chain| Json::list(chain.iter().map(factor_json))))),
+            ("kilograms", Json::from(sheet.kilograms(compartment).to_string())),
+            ("micrograms", Json::from(sheet.micrograms(compartment).to_string())),
+            ("figure", Json::from(figures[compartment])),
+        ])
+    });
+    let documents = tables::DOCUMENTS.iter().map(|(number, title)| (number.to_string(), Json::from(*title)));
+    Json::object([
+        ("kind", Json::from(describe::kind_name(sheet.case.kind))),
+        ("equation", Json::from(sheet.equation)),
+        ("source", Json::from(sheet.source)),
+        ("emissions", Json::list(emissions)),
+        ("documents", Json::Object(documents.collect())),
+    ])
+}
+
+fn factor_json(factor: &Factor) -> Json {
+    Json::object([
+        ("operation", Json::from(if factor.divides { "divide" } else { "multiply" })),
+        ("symbol", Json::from(factor.symbol.as_str())),
+        ("meaning", Json::from(factor.meaning.as_str())),
+        ("value", Json::from(factor.value.to_string())),
+        ("source", Json::from(factor.source)),
+    ])
+}

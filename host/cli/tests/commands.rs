@@ -1,0 +1,217 @@
+//! Output and exit status of the commands that need no archive.
+
+mod common;
+use common::{Place, P1};
+
+fn with<'a>(command: &'a str, fields: &[&'a str]) -> Vec<&'a str> {
+    [&[command], fields].concat()
+}
+
+#[test]
+fn work_out_prints_the_values_taken_and_the_figures() {
+    let place = Place::new("work_out");
+    let ran = place.run(&with("work-out", &P1));
+    let expected = "\
+kind     4  sanitary use, by tonnage
+row      1  defaults of the document
+route    1  to the sewage treatment plant (STP)
+dossier  7
+a        100 (0x4059000000000000)  EU tonnage, t per year
+b        0 (0x0000000000000000)  fraction disintegrated
+c        1 (0x3ff0000000000000)  fraction to water
+
+stp      76923077 µg per day = 76923.077 mg = 0.076923077 kg
+surface  0 µg per day = 0.000 mg = 0.000000000 kg
+air      0 µg per day = 0.000 mg = 0.000000000 kg
+soil     0 µg per day = 0.000 mg = 0.000000000 kg
+";
+    ran.ends(0);
+    assert_eq!((ran.out.as_str(), ran.err.as_str()), (expected, ""));
+}
+
+#[test]
+fn a_decimal_between_two_doubles_is_said_to_be_below_or_above() {
+    let place = Place::new("decimals");
+    let ran = place.run(&["work-out", "kind=6", "row=1", "dossier=7", "a=0.71", "b=0.1"]);
+    ran.ends(0);
+    let taken = "0.70999999999999996447286321199499070644378662109375 (0x3fe6b851eb851eb8, below 0.71)";
+    assert!(ran.out.contains(taken), "{}", ran.out);
+    assert!(ran.out.contains("(0x3fb999999999999a, above 0.1)"), "{}", ran.out);
+    let by_pattern = place.run(&["work-out", "kind=6", "row=1", "dossier=7", "a=0x3fe6b851eb851eb8", "b=1e-1"]);
+    let figures = |text: &str| text.split_once("\n\n").unwrap().1.to_string();
+    assert_eq!(figures(&by_pattern.ends(0).out), figures(&ran.out));
+}
+
+#[test]
+fn the_calculation_sheet() {
+    let place = Place::new("explain");
+    let ran = place.run(&with("explain", &P1));
+    let expected = "\
+equation E = a·0.1·1000·0.002·(1 − b)·c/D  (kg per day)
+         [002, Table 3, l. 319]
+
+To the sewage treatment plant (STP):
+    a      100    EU tonnage, t per year  [case]
+  ×        0.1    fraction for the region  [002, Table 3, l. 303]
+  ×        1000   kilograms in a tonne  [002, Table 3, l. 319]
+  ×        0.002  fraction of the main source  [002, Table 3, l. 306]
+  × 1 − b  1      b is the fraction disintegrated  [case]
+  × c      1      fraction to water  [case]
+  / D      260    emission days per year  [002, 2.1.4.2, l. 293]
+  = 1/13 kg per day
+  = 76923076 + 12/13 µg per day, rounded up
+  figure 76923077 µg per day = 76923.077 mg = 0.076923077 kg
+
+To surface water: no equation, figure 0
+
+To air: no equation, figure 0
+
+To soil: no equation, figure 0
+
+002  Emission Scenario Document for Product Type 2, private and public health area disinfectants, EUR 25115 EN, \
+Joint Research Centre, 2011
+
+Checked: the library and the model give the same four figures.
+";
+    ran.ends(0);
+    let sheet = &ran.out[ran.out.find("equation").unwrap()..];
+    assert_eq!(sheet, expected);
+}
+
+#[test]
+fn sheets_of_every_kind_name_the_exact_fraction() {
+    let place = Place::new("explain_kinds");
+    let sheets: [(&[&str], &str); 8] = [
+        (&["kind=2", "row=3", "a=0.015625", "c=1"], "= 875/584 kg per day\n"),
+        (&["kind=3", "row=3", "user=1", "a=0.015625"], "= 61523437 + 1/2 µg per day, rounded up\n"),
+        (&["kind=3", "row=7", "user=2", "a=0.015625"], "= 145468750 µg per day, a whole number\n"),
+        (&["kind=1", "row=4", "a=0.0009765625", "b=0.001953125", "c=1"], "= 1671/46720 kg per day\n"),
+        (&["kind=6", "row=1", "a=0.015625", "b=0.5"], "= 213/3200 kg per day\n"),
+        (&["kind=7", "row=1", "a=0.03125", "b=0.25", "c=1", "e=1"], "= 125/24 kg per day\n"),
+        (&["kind=5", "T=250", "a=16", "b=0.125", "c=0.5", "d=0.25", "e=0.125"], "= 2 kg per day\n"),
+        (&["kind=1", "row=0", "T=31", "a=1", "b=1", "c=1", "d=1"], "= 8000/31 kg per day\n"),
+    ];
+    for (fields, line) in sheets {
+        let ran = place.run(&[&["explain", "dossier=7"], fields].concat());
+        assert!(ran.ends(0).out.contains(line), "{fields:?}\n{}", ran.out);
+        assert!(ran.out.ends_with("give the same four figures.\n"));
+    }
+}
+
+/// Each refusal from the input: number as exit status, field, what was found and what is allowed.
+#[test]
+fn refusals_name_the_field_and_what_is_allowed() {
+    let place = Place::new("refusals");
+    place.write("short", &[4; 63]);
+    let refusals: [(&[&str], i32, &str, &str); 11] = [
+        (&["--case", "short"], 1, "63 bytes", "exactly 64 bytes"),
+        (&["kind=8"], 2, "8", "1 to 7"),
+        (&["kind=6", "row=6"], 3, "6", "0 to 5 for kind 6"),
+        (&["kind=2", "row=2", "route=2"], 4, "2", "1 (to the STP) only for kind 2 row 2"),
+        (&["kind=3", "row=3"], 5, "0", "1 (professional) or 2 (not professional) for kind 3"),
+        (&["kind=1", "T=30"], 6, "30", "31 to 36500 for kind 1 row 0 (service life in days)"),
+        (&["kind=4", "row=1"], 7, "0", "1 or more"),
+        (&["kind=4", "row=1", "dossier=7", "f=-0"], 8, "its sign bit is set", "a finite number from 0"),
+        (&["kind=2", "row=3", "dossier=7", "b=1"], 9, "1", "zero: kind 2 row 3 carries a, c and no other quantity"),
+        (&["kind=7", "row=1", "dossier=7", "c=5.5"], 10, "5.5", "0 to 5 kg per litre for kind 7 (density)"),
+        (&["kind=5", "T=1", "dossier=7", "c=0.75", "d=0.5"], 11, "1.25", "at most 1"),
+    ];
+    for (fields, number, found, allowed) in refusals {
+        for command in ["work-out", "explain", "case"] {
+            let ran = place.run(&with(command, fields));
+            ran.ends(number);
+            assert_eq!(ran.out, "");
+            assert!(ran.err.starts_with(&format!("refused {number}: ")), "{}", ran.err);
+            assert!(ran.err.contains(&format!("found    {found}")) || ran.err.contains(found), "{}", ran.err);
+            assert!(ran.err.contains(&format!("allowed  {allowed}")), "{}", ran.err);
+        }
+        let json = place.run(&[&["work-out", "--json"], fields].concat());
+        assert!(json.ends(number).out.starts_with(&format!("{{\"refused\":{number},")), "{}", json.out);
+    }
+}
+
+#[test]
+fn a_case_file_is_written_and_read_back() {
+    let place = Place::new("case_file");
+    let ran = place.run(&[&["case", "--out", "p1.case"], &P1[..]].concat());
+    let hex = "04010100000000000700000000000000\
+               00000000000059400000000000000000000000000000f03f000000000000000000000000000000000000000000000000";
+    assert!(ran.ends(0).out.ends_with(&format!("bytes    {hex}\n")), "{}", ran.out);
+    assert_eq!(place.read("p1.case").len(), 64);
+    assert_eq!(place.names(), ["p1.case"]);
+    let by_file = place.run(&["work-out", "--case", "p1.case"]);
+    assert_eq!(by_file.ends(0).out, place.run(&with("work-out", &P1)).out);
+    // An existing file is never written over.
+    let before = place.read("p1.case");
+    place.run(&["case", "kind=4", "row=1", "dossier=8", "--out", "p1.case"]).ends(73);
+    assert_eq!(place.read("p1.case"), before);
+}
+
+#[test]
+fn json_answers() {
+    let place = Place::new("json");
+    let ran = place.run(&[&["work-out", "--json"], &P1[..]].concat());
+    let figures = "\"figures\":{\"stp\":\"76923077\",\"surface\":\"0\",\"air\":\"0\",\"soil\":\"0\"}}\n";
+    assert!(ran.ends(0).out.ends_with(figures), "{}", ran.out);
+    assert!(ran.out.contains("\"a\":{\"pattern\":\"0x4059000000000000\",\"exact\":\"100\"}"));
+    let ran = place.run(&[&["explain", "--json"], &P1[..]].concat());
+    assert!(ran.ends(0).out.contains("\"kilograms\":\"1/13\",\"micrograms\":\"1000000000/13\""), "{}", ran.out);
+    place.run(&["defaults", "--json"]).ends(0);
+    let ran = place.run(&["work-out", "kind=x", "--json"]);
+    assert!(ran.ends(64).out.starts_with("{\"error\":64,"), "{}", ran.out);
+}
+
+#[test]
+fn defaults_and_help() {
+    let place = Place::new("defaults");
+    let defaults = place.run(&["defaults"]);
+    for part in ["5.57", "001, defaults, l. 112", "0.71", "l. 2020", "version 6, 12 November 2015", "260"] {
+        assert!(defaults.ends(0).out.contains(part), "{part}");
+    }
+    for words in [&["help"][..], &["--help"], &["help", "work-out"], &["work-out", "--help"]] {
+        let help = place.run(words);
+        for command in ["work-out", "explain", "case", "new", "file", "show", "list", "worst", "defaults", "help"] {
+            assert!(help.ends(0).out.contains(&format!("csorvelin {command}")), "{command}");
+        }
+    }
+    assert!(place.run(&["help", "kinds"]).ends(0).out.contains("kind 7: chemical toilets"));
+}
+
+#[test]
+fn usage_errors_end_with_64() {
+    let place = Place::new("usage");
+    let wrong: [&[&str]; 22] = [
+        &[],
+        &["emit"],
+        &["work-out"],
+        &["work-out", "kind"],
+        &["work-out", "kind=4", "kind=4"],
+        &["work-out", "colour=4"],
+        &["work-out", "kind=256"],
+        &["work-out", "T=4294967296"],
+        &["work-out", "kind=4", "a=much"],
+        &["work-out", "kind=4", "a=1e-400"],
+        &["work-out", "kind=4", "a=1e400"],
+        &["work-out", "kind=4", "--case", "file"],
+        &["work-out", "--case"],
+        &["work-out", "--verbose", "kind=4"],
+        &["work-out", "kind=4", "--out", "file"],
+        &["new"],
+        &["new", "one", "two"],
+        &["file", "archive"],
+        &["show", "archive"],
+        &["show", "archive", "-1"],
+        &["worst", "archive", "river"],
+        &["list", "archive", "kind=4"],
+    ];
+    for words in wrong {
+        let ran = place.run(words);
+        ran.ends(64);
+        assert!(ran.out.is_empty() && ran.err.contains("csorvelin help"), "{words:?}");
+    }
+    assert_eq!(place.names(), Vec::<String>::new());
+    place.run(&["work-out", "--case", "missing"]).ends(66);
+    place.run(&["list", "missing"]).ends(66);
+    place.run(&["file", "missing", "kind=4", "row=1", "dossier=7"]).ends(66);
+    place.run(&["new", "missing/archive"]).ends(73);
+}

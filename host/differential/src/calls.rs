@@ -1,0 +1,40 @@
+//! The library's calls, answering every output. The outputs hold other values before, so that one left unwritten shows.
+
+use csorvelin_binding::sys;
+
+const UNWRITTEN: u64 = 0xa5a5_5a5a_c3c3_3c3c;
+
+/// Refusal and figures.
+pub fn work_out(case: &[u8]) -> (u32, [u64; 4]) {
+    let mut figures = [UNWRITTEN; 4];
+    let refusal = sys::work_out(case, &mut figures);
+    (refusal, figures)
+}
+
+/// Refusal and used length.
+pub fn empty(buffer: &mut [u8]) -> (u32, u64) {
+    let mut used = UNWRITTEN;
+    let refusal = sys::empty(buffer, &mut used);
+    (refusal, used)
+}
+
+/// Refusal, number and used length.
+pub fn file(buffer: &mut [u8], used: u64, case: &[u8]) -> (u32, u64, u64) {
+    let (mut used, mut number) = (used, UNWRITTEN);
+    let refusal = sys::file(buffer, &mut used, case, &mut number);
+    (refusal, number, used)
+}
+
+/// Refusal, first byte and length.
+pub fn show(buffer: &[u8], used: u64, number: u64) -> (u32, u64, u64) {
+    let (mut start, mut length) = (UNWRITTEN, UNWRITTEN);
+    let refusal = sys::show(buffer, used, number, &mut start, &mut length);
+    (refusal, start, length)
+}
+
+/// Refusal and number.
+pub fn worst(buffer: &[u8], used: u64, compartment: u64) -> (u32, u64) {
+    let mut number = UNWRITTEN;
+    let refusal = sys::worst(buffer, used, compartment, &mut number);
+    (refusal, number)
+}

@@ -1,0 +1,336 @@
+//! What a case may hold, and the refusals 1 to 11 in their order.
+
+use crate::binary64;
+use crate::case::{Case, CASE_BYTES, QUANTITIES};
+use crate::ratio::Ratio;
+use std::ops::RangeInclusive;
+
+/// Why a case is refused: the paper's number, the field, what it holds and what is allowed there.
+#[derive(Clone, Debug, PartialEq, Eq)]
+pub struct Violation {
+    pub number: u32,
+    pub field: String,
+    pub found: String,
+    pub allowed: String,
+}
+
+/// A quantity that a kind carries. Its limit is inclusive, from 0; 1 for a fraction.
+#[derive(Clone, Copy, Debug, PartialEq, Eq)]
+pub struct Listed {
+    pub index: usize,
+    pub meaning: &'static str,
+    pub unit: &'static str,
+    pub limit: u64,
+}
+
+const fn fraction(index: usize, meaning: &'static str) -> Listed {
+    Listed { index, meaning, unit: "", limit: 1 }
+}
+
+const fn quantity(index: usize, meaning: &'static str, unit: &'static str, limit: u64) -> Listed {
+    Listed { index, meaning, unit, limit }
+}
+
+const A: usize = 0;
+const B: usize = 1;
+const C: usize = 2;
+const D: usize = 3;
+const E: usize = 4;
+const F: usize = 5;
+
+const AREA: Listed = quantity(D, "treated area A of a house", "m2", 1000);
+const VOLUME: Listed = quantity(E, "volume V of product", "L/m2", 100);
+const DENSITY: Listed = quantity(F, "density R", "kg/m3", 5000);
+const ACTIVE: Listed = fraction(A, "active fraction of the product");
+const SHARE: Listed = fraction(C, "market share");
+
+pub const KIND_NAMES: [&str; 7] = [
+    "city, leaching measured",
+    "city, leaching unknown",
+    "city, application",
+    "sanitary use, by tonnage",
+    "formulation, by tonnage",
+    "hygiene products, by consumption",
+    "chemical toilets",
+];
+
+/// The rows of a kind.
+pub fn rows(kind: u8) -> RangeInclusive<u8> {
+    match kind {
+        1..=3 => 0..=7,
+        4 | 7 => 0..=1,
+        5 => 0..=0,
+        _ => 0..=5,
+    }
+}
+
+pub fn route_2_allowed(kind: u8, row: u8) -> bool {
+    matches!(kind, 1..=3) && matches!(row, 0 | 3..=7)
+}
+
+/// The allowed users.
+pub fn users(kind: u8) -> RangeInclusive<u8> {
+    if kind == 3 {
+        1..=2
+    } else {
+        0..=0
+    }
+}
+
+/// The allowed count T.
+pub fn counts(kind: u8, row: u8) -> RangeInclusive<u32> {
+    match (kind, row) {
+        (1 | 2, 0) => 31..=36_500,
+        (3 | 7, 0) => 1..=100,
+        (4 | 5, 0) => 1..=366,
+        _ => 0..=0,
+    }
+}
+
+/// What T means for a kind in row 0.
+pub fn count_meaning(kind: u8) -> &'static str {
+    match kind {
+        1 | 2 => "service life in days",
+        3 => "houses treated per day",
+        4 | 5 => "emission days per year",
+        7 => "tank wagons per day",
+        _ => "unused",
+    }
+}
+
+/// The quantities that a kind carries in a row.
+pub fn listed(kind: u8, row: u8) -> Vec<Listed> {
+    let mut listed = listed_in_every_row(kind);
+    if row == 0 {
+        listed.extend(listed_in_row_0(kind));
+    }
+    listed
+}
+
+fn listed_in_every_row(kind: u8) -> Vec<Listed> {
+    match kind {
+        1 => vec![
+            quantity(A, "leached in the first 30 days", "kg/m2", 100),
+            quantity(B, "leached in the rest of the service life", "kg/m2", 100),
+            SHARE,
+        ],
+        2 => vec![ACTIVE, SHARE],
+        3 => vec![ACTIVE],
+        4 => vec![
+            quantity(A, "EU tonnage", "t per year", 1_000_000),
+            fraction(B, "fraction disintegrated"),
+            fraction(C, "fraction to water"),
+        ],
+        5 => vec![
+            quantity(A, "regional tonnage", "t per year", 1_000_000),
+            fraction(B, "main source fraction"),
+            fraction(C, "fraction to water"),
+            fraction(D, "fraction to air"),
+            fraction(E, "fraction to soil"),
+        ],
+        6 => vec![ACTIVE, fraction(B, "penetration")],
+        7 => vec![
+            fraction(A, "litres of product per litre of pre-charge"),
+            fraction(B, "active fraction of the product"),
+            quantity(C, "density", "kg per litre", 5),
+            fraction(D, "fraction disintegrated"),
+            fraction(E, "fraction reaching the plant"),
+        ],
+        _ => vec![],
+    }
+}
+
+/// What a case of row 0 gives in place of the row's defaults. Kind 1 has no use for volume and density.
+fn listed_in_row_0(kind: u8) -> Vec<Listed> {
+    match kind {
+        1 => vec![AREA],
+        2 | 3 => vec![AREA, VOLUME, DENSITY],
+        6 => vec![
+            quantity(D, "amount G per use", "g", 10_000),
+            quantity(E, "uses M per day", "per day", 100),
+            fraction(F, "share H of the inhabitants"),
+        ],
+        _ => vec![],
+    }
+}
+
+/// The first of the refusals 1 to 11 that holds, in the paper's order.
+pub fn violation(bytes: &[u8]) -> Option<Violation> {
+    let Some(case) = Case::decode(bytes) else {
+        return Some(Violation {
+            number: 1,
+            field: "case".to_string(),
+            found: format!("{} bytes", bytes.len()),
+            allowed: format!("exactly {CASE_BYTES} bytes"),
+        });
+    };
+    let conditions = [
+        kind_not_allowed,
+        row_not_allowed,
+        route_not_allowed,
+        user_not_allowed,
+        count_not_allowed,
+        dossier_zero,
+        pattern_not_allowed,
+        unlisted_not_zero,
+        over_limit,
+        sum_over_one,
+    ];
+    conditions.iter().find_map(|condition| condition(&case))
+}
+
+/// The first refusal's number, 0 for none.
+pub fn refusal(bytes: &[u8]) -> u32 {
+    violation(bytes).map_or(0, |violation| violation.number)
+}
+
+fn violated(number: u32, field: &str, found: String, allowed: String) -> Option<Violation> {
+    Some(Violation { number, field: field.to_string(), found, allowed })
+}
+
+fn span<T: PartialEq + std::fmt::Display>(range: &RangeInclusive<T>) -> String {
+    if range.start() == range.end() {
+        format!("{}", range.start())
+    } else {
+        format!("{} to {}", range.start(), range.end())
+    }
+}
+
+fn kind_not_allowed(case: &Case) -> Option<Violation> {
+    if (1..=7).contains(&case.kind) {
+        return None;
+    }
+    violated(2, "kind", case.kind.to_string(), "1 to 7".to_string())
+}
+
+fn row_not_allowed(case: &Case) -> Option<Violation> {
+    let rows = rows(case.kind);
+    if rows.contains(&case.row) {
+        return None;
+    }
+    violated(3, "row", case.row.to_string(), format!("{} for kind {}", span(&rows), case.kind))
+}
+
+fn route_not_allowed(case: &Case) -> Option<Violation> {
+    let second = route_2_allowed(case.kind, case.row);
+    if case.route == 1 || case.route == 2 && second {
+        return None;
+    }
+    let routes = if second { "1 (to the STP) or 2 (to surface water)" } else { "1 (to the STP) only" };
+    let allowed = format!("{routes} for kind {} row {}", case.kind, case.row);
+    violated(4, "route", case.route.to_string(), allowed)
+}
+
+fn user_not_allowed(case: &Case) -> Option<Violation> {
+    if users(case.kind).contains(&case.user) {
+        return None;
+    }
+    let allowed = if case.kind == 3 {
+        "1 (professional) or 2 (not professional) for kind 3".to_string()
+    } else {
+        format!("0 for kind {}", case.kind)
+    };
+    violated(5, "user", case.user.to_string(), allowed)
+}
+
+fn count_not_allowed(case: &Case) -> Option<Violation> {
+    let counts = counts(case.kind, case.row);
+    if counts.contains(&case.count) {
+        return None;
+    }
+    let place = format!("kind {} row {}", case.kind, case.row);
+    let allowed = if counts == (0..=0) {
+        format!("0 for {place}, where T is unused")
+    } else {
+        format!("{} for {place} ({})", span(&counts), count_meaning(case.kind))
+    };
+    violated(6, "T", case.count.to_string(), allowed)
+}
+
+fn dossier_zero(case: &Case) -> Option<Violation> {
+    if case.dossier != 0 {
+        return None;
+    }
+    violated(7, "dossier", "0".to_string(), "1 or more".to_string())
+}
+
+fn pattern_not_allowed(case: &Case) -> Option<Violation> {
+    let index = case.patterns.iter().position(|&pattern| !binary64::is_quantity(pattern))?;
+    let pattern = case.patterns[index];
+    let fault = if binary64::sign(pattern) {
+        "its sign bit is set"
+    } else {
+        "its exponent field is 2047, infinity or not a number"
+    };
+    let found = format!("{pattern:#018x}, {fault}");
+    let allowed = "a finite number from 0, without a sign (minus zero is not allowed)";
+    violated(8, &QUANTITIES[index].to_string(), found, allowed.to_string())
+}
+
+fn unlisted_not_zero(case: &Case) -> Option<Violation> {
+    let listed = listed(case.kind, case.row);
+    let index =
+        (0..6).find(|&index| listed.iter().all(|quantity| quantity.index != index) && case.patterns[index] != 0)?;
+    let names: Vec<String> = listed.iter().map(|quantity| QUANTITIES[quantity.index].to_string()).collect();
+    let allowed =
+        format!("zero: kind {} row {} carries {} and no other quantity", case.kind, case.row, names.join(", "));
+    violated(9, &QUANTITIES[index].to_string(), written(case.patterns[index]), allowed)
+}
+
+fn over_limit(case: &Case) -> Option<Violation> {
+    let listed = listed(case.kind, case.row);
+    let over = listed.iter().find(|quantity| case.exact(quantity.index) > Ratio::whole(quantity.limit))?;
+    let unit = if over.unit.is_empty() { String::new() } else { format!(" {}", over.unit) };
+    let allowed = format!("0 to {}{unit} for kind {} ({})", over.limit, case.kind, over.meaning);
+    let name = QUANTITIES[over.index].to_string();
+    violated(10, &name, written(case.patterns[over.index]), allowed)
+}
+
+fn sum_over_one(case: &Case) -> Option<Violation> {
+    if case.kind != 5 {
+        return None;
+    }
+    let sum = rounded_release(case);
+    if binary64::exact(sum) <= Ratio::whole(1) {
+        return None;
+    }
+    violated(11, "(c + d) + e", written(sum), "at most 1, each addition rounded in binary64".to_string())
+}
+
+/// Kind 5's sum (c + d) + e, both additions rounded.
+fn rounded_release(case: &Case) -> u64 {
+    let [_, _, c, d, e, _] = case.patterns;
+    binary64::rounded_sum(binary64::rounded_sum(c, d), e)
+}
+
+/// A quantity's exact value for a message: all digits of the decimal, or a fraction where those are many.
+fn written(pattern: u64) -> String {
+    let value = binary64::exact(pattern);
+    value.exact_decimal(80).unwrap_or_else(|| value.to_string())
+}
+
+#[cfg(test)]
+mod tests {
+    use super::*;
+
+    #[test]
+    fn a_case_of_another_length_is_refused_first() {
+        for length in (0..=200).filter(|&length| length != CASE_BYTES) {
+            assert_eq!(refusal(&vec![0; length]), 1);
+        }
+        assert_eq!(refusal(&[0; CASE_BYTES]), 2);
+    }
+
+    #[test]
+    fn listed_quantities_by_kind_and_row() {
+        let names =
+            |kind, row| -> String { listed(kind, row).iter().map(|quantity| QUANTITIES[quantity.index]).collect() };
+        let expected = [(1, "abcd", "abc"), (2, "acdef", "ac"), (3, "adef", "a"), (4, "abc", "abc")];
+        for (kind, own, tabled) in expected {
+            assert_eq!((names(kind, 0).as_str(), names(kind, 1).as_str()), (own, tabled));
+        }
+        assert_eq!(names(5, 0), "abcde");
+        assert_eq!((names(6, 0).as_str(), names(6, 5).as_str()), ("abdef", "ab"));
+        assert_eq!((names(7, 0).as_str(), names(7, 1).as_str()), ("abcde", "abcde"));
+    }
+}

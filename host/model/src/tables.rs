@@ -1,0 +1,213 @@
+//! The default tables of the requirements, in their own decimals, each number with the place it comes from: document,
+//! table or section, line of the text copy.
+
+use crate::ratio::Ratio;
+
+/// The source documents and their titles.
+pub const DOCUMENTS: [(&str, &str); 3] = [
+    (
+        "000",
+        "Emission Scenario Document for Product Type 6, preservatives for products during storage, version 1.1, \
+         European Chemicals Agency, September 2019",
+    ),
+    (
+        "001",
+        "Proposal for the emission from preservatives in paints, coatings, wood, polymerised materials and masonry in \
+         urban areas (the city scenario), version 6, 12 November 2015",
+    ),
+    (
+        "002",
+        "Emission Scenario Document for Product Type 2, private and public health area disinfectants, EUR 25115 EN, \
+         Joint Research Centre, 2011",
+    ),
+];
+
+/// A default: its decimal as printed and its source.
+#[derive(Clone, Copy, Debug)]
+pub struct DefaultValue {
+    pub decimal: &'static str,
+    pub source: &'static str,
+}
+
+impl DefaultValue {
+    pub fn value(&self) -> Ratio {
+        Ratio::from_decimal(self.decimal).expect("a decimal of the tables")
+    }
+}
+
+const fn default(decimal: &'static str, source: &'static str) -> DefaultValue {
+    DefaultValue { decimal, source }
+}
+
+pub const HOUSES: DefaultValue = default("4000", "001, The city scenario, l. 85");
+pub const RECENT_DAYS: DefaultValue = default("30", "001, symbols, l. 123");
+pub const LITRES: DefaultValue = default("1000", "000, Table 18, l. 1142");
+pub const LOSS_PROFESSIONAL: DefaultValue = default("0.03", "001, symbols, l. 286–287");
+pub const LOSS_OTHER: DefaultValue = default("0.05", "001, symbols, l. 286–287");
+pub const REGION: DefaultValue = default("0.1", "002, Table 3, l. 303");
+pub const KILOGRAMS_SANITARY: DefaultValue = default("1000", "002, Table 3, l. 319");
+pub const MAIN_SOURCE: DefaultValue = default("0.002", "002, Table 3, l. 306");
+pub const EMISSION_DAYS: DefaultValue = default("260", "002, 2.1.4.2, l. 293");
+pub const KILOGRAMS_FORMULATION: DefaultValue = default("1000", "000, 2.2.3, l. 501");
+pub const INHABITANTS: DefaultValue = default("10000", "000, Table 8, l. 743");
+pub const GRAMS: DefaultValue = default("1000", "000, Table 8, l. 777");
+pub const PRECHARGE_LITRES: DefaultValue = default("20", "002, Table 7, l. 642");
+pub const WAGON_LITRES: DefaultValue = default("2000", "002, Table 7, l. 644");
+pub const TOILET_LITRES: DefaultValue = default("60", "002, Table 7, l. 643");
+pub const WAGONS: DefaultValue = default("1", "002, Table 7, l. 645");
+
+/// The defaults of the equations outside the row tables: kinds, symbol, meaning.
+pub const CONSTANTS: [(&str, &str, DefaultValue); 16] = [
+    ("1, 2", "houses in the city", HOUSES),
+    ("1", "days counted as recent", RECENT_DAYS),
+    ("2, 3", "litres in a cubic metre (divisor)", LITRES),
+    ("3", "B, share lost in application, professional user", LOSS_PROFESSIONAL),
+    ("3", "B, share lost in application, other user", LOSS_OTHER),
+    ("4", "fraction of the EU tonnage for the region", REGION),
+    ("4", "kilograms in a tonne", KILOGRAMS_SANITARY),
+    ("4", "fraction of the main source (STP)", MAIN_SOURCE),
+    ("4", "D, emission days per year, row 1", EMISSION_DAYS),
+    ("5", "kilograms in a tonne", KILOGRAMS_FORMULATION),
+    ("6", "inhabitants feeding one STP", INHABITANTS),
+    ("6", "grams in a kilogram (divisor)", GRAMS),
+    ("7", "litres of pre-charge liquid in a toilet", PRECHARGE_LITRES),
+    ("7", "litres in a tank wagon", WAGON_LITRES),
+    ("7", "litres of sewage in a toilet (divisor)", TOILET_LITRES),
+    ("7", "N, tank wagons per day, row 1", WAGONS),
+];
+
+/// A row of the city tables (document 001, Tables 1 and 2).
+#[derive(Clone, Copy, Debug)]
+pub struct CityRow {
+    pub row: u8,
+    pub name: &'static str,
+    /// Service life L in days.
+    pub life: DefaultValue,
+    /// Treated area A of a house in m2.
+    pub area: DefaultValue,
+    /// Density R in kg/m3.
+    pub density: DefaultValue,
+    /// Volume V of product in L/m2.
+    pub volume: DefaultValue,
+    /// Houses treated per day, N of kind 3.
+    pub houses: DefaultValue,
+}
+
+const THREE_HOUSES: DefaultValue = default("3", "001, Application phase, l. 294–296");
+const ONE_HOUSE: DefaultValue = default("1", "001, Application phase, l. 296");
+
+pub const CITY_ROWS: [CityRow; 7] = [
+    CityRow {
+        row: 1,
+        name: "bathroom joint filler",
+        life: default("3650", "001, Table 1, l. 154–155"),
+        area: default("0.24", "001, Table 1, l. 154–155"),
+        density: default("1900", "001, Table 2, l. 232–234"),
+        volume: default("0.42", "001, Table 2, l. 232–234"),
+        houses: ONE_HOUSE,
+    },
+    CityRow {
+        row: 2,
+        name: "bathroom sealant",
+        life: default("3650", "001, Table 1, l. 157–158"),
+        area: default("0.12", "001, Table 1, l. 157–158"),
+        density: default("1000", "001, Table 2, l. 235"),
+        volume: default("5.88", "001, Table 2, l. 235"),
+        houses: ONE_HOUSE,
+    },
+    CityRow {
+        row: 3,
+        name: "facade paint",
+        life: default("1825", "001, Table 1, l. 162–164"),
+        area: default("125", "001, Table 1, l. 162–164"),
+        density: default("1400", "001, Table 2, l. 238–239"),
+        volume: default("0.25", "001, Table 2, l. 238–239"),
+        houses: THREE_HOUSES,
+    },
+    CityRow {
+        row: 4,
+        name: "window and door paint",
+        life: default("1825", "001, Table 1, l. 166–168"),
+        area: default("5.57", "001, defaults, l. 112"),
+        density: default("1400", "001, Table 2, l. 240–243"),
+        volume: default("0.25", "001, Table 2, l. 240–243"),
+        houses: THREE_HOUSES,
+    },
+    CityRow {
+        row: 5,
+        name: "facade plaster",
+        life: default("9125", "001, Table 1, l. 170–172"),
+        area: default("125", "001, Table 1, l. 170–172"),
+        density: default("1000", "001, Table 2, l. 245–247"),
+        volume: default("4.0", "001, Table 2, l. 245–247"),
+        houses: ONE_HOUSE,
+    },
+    CityRow {
+        row: 6,
+        name: "outdoor joint sealant",
+        life: default("1825", "001, Table 1, l. 173–175"),
+        area: default("0.31", "001, Table 1, l. 173–175"),
+        density: default("1000", "001, Table 2, l. 249–250"),
+        volume: default("5.88", "001, Table 2, l. 249–250"),
+        houses: THREE_HOUSES,
+    },
+    CityRow {
+        row: 7,
+        name: "outdoor joint filler",
+        life: default("9125", "001, Table 1, l. 176–178"),
+        area: default("35", "001, Table 1, l. 176–178"),
+        density: default("1900", "001, Table 2, l. 252–255"),
+        volume: default("2.8", "001, Table 2, l. 252–255"),
+        houses: ONE_HOUSE,
+    },
+];
+
+/// A row of the hygiene products (document 000, appendix 3.1, pick-list).
+#[derive(Clone, Copy, Debug)]
+pub struct HygieneRow {
+    pub row: u8,
+    pub name: &'static str,
+    /// Grams per use, G.
+    pub grams: DefaultValue,
+    /// Uses per day, M.
+    pub uses: DefaultValue,
+    /// Share of the inhabitants, H.
+    pub share: DefaultValue,
+}
+
+const fn hygiene(
+    row: u8,
+    name: &'static str,
+    [grams, uses, share]: [&'static str; 3],
+    source: &'static str,
+) -> HygieneRow {
+    HygieneRow { row, name, grams: default(grams, source), uses: default(uses, source), share: default(share, source) }
+}
+
+pub const HYGIENE_ROWS: [HygieneRow; 5] = [
+    hygiene(1, "shampoo", ["12", "0.71", "0.1"], "000, appendix 3.1, pick-list, l. 2020"),
+    hygiene(2, "aerosol", ["3", "2", "0.2"], "000, appendix 3.1, pick-list, l. 2022"),
+    hygiene(3, "stick", ["0.5", "1", "0.8"], "000, appendix 3.1, pick-list, l. 2023"),
+    hygiene(4, "cream", ["0.8", "2", "0.1"], "000, appendix 3.1, pick-list, l. 2024"),
+    hygiene(5, "mouth wash", ["10", "3", "0.05"], "000, appendix 3.1, pick-list, l. 2025"),
+];
+
+pub fn city_row(row: u8) -> Option<&'static CityRow> {
+    CITY_ROWS.iter().find(|city| city.row == row)
+}
+
+pub fn hygiene_row(row: u8) -> Option<&'static HygieneRow> {
+    HYGIENE_ROWS.iter().find(|hygiene| hygiene.row == row)
+}
+
+/// What the documents suggest for quantities that a case gives itself: kind, quantity, meaning, suggestion.
+pub const SUGGESTIONS: [(u8, char, &str, DefaultValue); 8] = [
+    (1, 'c', "market share", default("1.0", "001, symbols, l. 127–128")),
+    (2, 'c', "market share", default("1.0", "001, symbols, l. 127–128")),
+    (4, 'b', "fraction disintegrated", default("0", "002, Table 3, l. 307")),
+    (4, 'c', "fraction to water", default("1", "002, Table 3, l. 308")),
+    (6, 'b', "penetration", default("0.5", "000, Table 8, l. 756")),
+    (7, 'a', "litres of product per litre of pre-charge", default("0.02", "002, Table 7, l. 639")),
+    (7, 'd', "fraction disintegrated", default("0", "002, Table 7, l. 646")),
+    (7, 'e', "fraction reaching the plant", default("1", "002, Table 7, l. 647")),
+];
