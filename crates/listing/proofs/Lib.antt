@@ -1,0 +1,6 @@
+-- Laws that this crate's proofs and the crates above cite.
+pub mod Digits
+pub mod Stores
+pub mod Columns
+pub mod RecordLines
+pub mod Whole

@@ -1,0 +1,68 @@
+// The printed archive: a header, then a line for each record, into a lent buffer. Total: input that refusal 21 meets, or that is too long,
+// is printed as `refused 21`.
+ghost use mathlib.Core.Path.{_≡_};
+ghost use Prim.Native.Nat.{_≤_};
+ghost use lib.ListN.{length};
+ghost use Rattle.binary64.specs.Bytes.{splice};
+ghost use Rattle.listing.specs.Listing.{refused, listingOf, listed, listedBytes};
+use archive::records::count_at;
+use archive::records::is_broken;
+
+pub mod decimal;
+pub mod lines;
+
+// The most bytes that are taken, and the most that a listing has.
+pub const MOST_INPUT: usize = 65536;
+
+pub const MOST_OUTPUT: usize = 74384;
+
+const HEADER_SIZE: usize = 46;
+
+const REFUSAL_SIZE: usize = 11;
+
+// The length of the listing, and whether it was written.
+pub enum Listed {
+    Written(u64),
+    Needs(u64),
+}
+
+fn is_refused(archive: &[u8]) -> bool
+    ensures { λ r. ⌜ r ≡ refused (now (archive .entry)) ⌝ }
+{
+    (MOST_INPUT < archive.len()) | is_broken(archive, archive.len() as u64)
+}
+
+fn listing_length(archive: &[u8]) -> usize
+    ensures { λ r. ⌜ r ≡ length (listingOf (now (archive .entry))) ⌝ }
+{
+    if is_refused(archive) {
+        return REFUSAL_SIZE;
+    }
+    let n = count_at(archive, archive.len() as u64);
+    HEADER_SIZE + lines::lines_length(archive, n)
+}
+
+fn put_listing(out: &mut [u8], archive: &[u8])
+    requires { ⌜ length (listingOf (now archive)) ≤ length (now out) ⌝ }
+    ensures { λ _. ⌜ now (out .exit) ≡ splice (now (out .entry)) 0 (listingOf (now (archive .entry))) ⌝ }
+{
+    if is_refused(archive) {
+        lines::put_text(out, 0, b"refused 21\n");
+        return;
+    }
+    let n = count_at(archive, archive.len() as u64);
+    lines::put_text(out, 0, b"n dossier kind row route stp surface air soil\n");
+    lines::put_lines(out, HEADER_SIZE, archive, n);
+}
+
+// Prints an archive, all of whose bytes are its used length. An output buffer that is too short is left as it was.
+pub fn print(archive: &[u8], out: &mut [u8]) -> Listed
+    ensures { λ r. ⌜ (r ≡ listed (now (archive .entry)) (length (now (out .entry)))) × (now (out .exit) ≡ listedBytes (now (archive .entry)) (now (out .entry))) ⌝ }
+{
+    let needed = listing_length(archive);
+    if out.len() < needed {
+        return Listed::Needs(needed as u64);
+    }
+    put_listing(out, archive);
+    Listed::Written(needed as u64)
+}
