@@ -23,8 +23,8 @@ Fields are kind, row, route, user, T, dossier and a to f. Route is 1 unless give
 Quantities are decimals (0.71, 1e-3), taken as the nearest binary64 number, or patterns (0x3fe6b851eb851eb8).
 ARCHIVE may be - (standard input) where it is only read. --json gives every answer as JSON, 64-bit numbers as strings.
 
-Exit status: 0; a refusal's number (1 to 12, 21 to 24); 64 usage; 66 file not readable; 70 library and model differ;
-73 file not created; 74 file not written; 75 archive locked by another writer.
+Exit status: 0; a refusal's number (1 to 12, 21 to 24); 64 usage; 66 file not readable; 70 library and model differ, or
+a record's figures are not its case's; 73 file not created; 74 file not written; 75 archive locked by another writer.
 ";
 
 pub fn overview() -> String {
