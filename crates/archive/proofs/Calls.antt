@@ -6,19 +6,23 @@
 use mathlib.Core.Path.{_≡_, refl, sym, ap, _∙_, subst}
 use mathlib.Core.List.{List, []}
 use Prim.Native.Nat.{ℕ, zero, suc, _+_, _*_}
+use native.Mathlib.Omega.{arith}
+use borrow.Author.Tests.{eqb-false}
 use denote.Ref.{now}
 use Rattle.binary64.specs.Bytes.{splice}
 use Rattle.scenario.specs.Refusal.{Condition, firstOf, IsFirst}
-use Rattle.scenario.proofs.Refusals.{first-of-is-first, first-is-first-of}
+use Rattle.scenario.proofs.Refusals.{first-of-is-first, first-is-first-of, none-holds}
 use Rattle.archive.specs.Layout.{trailer, trailerSize, usedLength, recordSize, edition}
-use Rattle.archive.specs.Lines.{accepted, bytesAt, worstOf}
+use Rattle.archive.specs.Lines.{accepted, bytesAt, worstOf, IsWorst}
 use Rattle.archive.specs.Answers.{emptied, filed, named, ofEmptied, ofFiling, ofHighest, refusalIn}
 use Rattle.archive.specs.Archive.{countAt, linesIn, emptyRefusals, emptyRefusal, emptying, emptyBytes, fileRefusals, fileRefusal, filing, lineFor, written, fileBytes, showRefusals, showRefusal, showPart, worstRefusals, worstRefusal, naming}
 use Rattle.archive.specs.Called.{Called, InOrder}
 use Rattle.archive.specs.declared.Emptied.the-variants.{Used, Refused}
 use Rattle.archive.specs.declared.Filing.the-variants.{Filed, Refused as NotFiled}
 use Rattle.archive.specs.declared.Highest.the-variants.{Number, Refused as NotNamed}
+use Rattle.archive.proofs.RecordLaws.{length-decode}
 use Rattle.archive.proofs.Refusals.{accepted-refused}
+use Rattle.archive.proofs.WorstLine.{worst-is-highest}
 use Rattle.archive.proofs.empty.Kinds as empty-kinds
 use Rattle.archive.proofs.empty.Reads as empty-reads
 use Rattle.archive.proofs.file.Kinds as file-kinds
@@ -116,7 +120,8 @@ WorstInOrder call =
     let b = now (call .args .0) in
     let u = call .args .1 .0 in
     let m = call .args .1 .1 .0 in
-    InOrder (worstRefusals b u m) (refusalIn (ofHighest (call .result))) (call .result ≡ Number (worstOf m (linesIn b u)))
+    InOrder (worstRefusals b u m) (refusalIn (ofHighest (call .result)))
+    ((call .result ≡ Number (worstOf m (linesIn b u))) × IsWorst m (linesIn b u) (worstOf m (linesIn b u)))
 
 empty-in-order : (call : EmptyCall) → EmptyInOrder call
 unfolding emptying emptyBytes
@@ -144,6 +149,14 @@ unfolding showPart
 show-in-order call told s =
     in-order (showRefusals (now (call .args .0)) (call .args .1 .0) (call .args .1 .1 .0)) (told .result) _ (told-is call told s) (λ z. call .kept ∙ rw z)
 
+-- without refusal 24 there is a line, and so a worst one
+some-worst : (b : List ℕ) (u m : ℕ) → worstRefusal b u m ≡ 0 → IsWorst m (linesIn b u) (worstOf m (linesIn b u))
+unfolding worstRefusals
+some-worst b u m z =
+    let n = eqb-false (countAt b u) 0 (none-holds (worstRefusals b u m) refl z 2) in
+    let l = length-decode recordSize (countAt b u) b in
+    worst-is-highest m (linesIn b u) (omega arith)
+
 worst-in-order : (call : WorstCall) → WorstInOrder call
 unfolding naming
 worst-in-order call =
@@ -152,7 +165,7 @@ worst-in-order call =
     let m = call .args .1 .1 .0 in
     in-order (worstRefusals b u m) (refusalIn (ofHighest (call .result))) _
     (ap (λ r. refusalIn (ofHighest r)) (call .kept) ∙ ap refusalIn (of-naming b u m))
-    (λ z. call .kept ∙ rw z)
+    (λ z. (call .kept ∙ rw z, some-worst b u m z))
 
 pub refusal-order :
     ((call : EmptyCall) → EmptyInOrder call)

@@ -1,5 +1,5 @@
 -- Laws of records: what is written is read back.
--- Numbers: `number-back`, `figures-back`. Lines that a record holds: `Sized`, `Storable`, `AllStorable`, `storable-snoc`. Lengths: `length-recordOf`, `length-records`.
+-- Numbers: `number-back`, `figures-back`. Lines that a record holds: `Sized`, `Storable`, `AllStorable`, `storable-snoc`. Lengths: `length-recordOf`, `length-records`, `length-decode`.
 -- Back: `line-record`, `decode-records`, `record-at`. One more line: `records-snoc`. Places: `numberAt-drop`, `part-take`, `part-drop`, `line-figures`.
 -- Searches over records are in `Scan`.
 use mathlib.Core.Path.{_≡_, refl, sym, ap, _∙_, subst}
@@ -93,6 +93,11 @@ unfolding records
 length-records [] g = refl
 length-records (l ∷ ls) g =
     omega (arith, length-append (recordOf l) (records ls), length-recordOf l (g .0 .sized), length-records ls (g .1), mul-suc recordSize (length ls))
+
+pub length-decode : (width n : ℕ) (b : List ℕ) → length (decode width n b) ≡ n
+unfolding decode
+length-decode width zero b = refl
+length-decode width (suc n) b = ap suc (length-decode width n (drop width b))
 
 pub decode-records : (ls : List Line) (r : List ℕ) → AllStorable ls → decode recordSize (length ls) (records ls ++ r) ≡ ls
 unfolding records decode

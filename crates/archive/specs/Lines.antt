@@ -7,7 +7,7 @@ use lib.Dec.{ltb, eqb}
 use lib.ListN.{length, getD, take, drop}
 use Rattle.archive.specs.Layout.{Line, noLine, mostRecords, recordSize}
 
--- a where there is no refusal, otherwise b
+-- what a call gives: a where there is no refusal, the number 0, and otherwise b
 abbrev pub accepted {ℓ} : {A : Type ℓ} → ℕ → A → A → A
 accepted zero a b = a
 accepted (suc r) a b = b

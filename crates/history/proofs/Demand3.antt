@@ -21,6 +21,10 @@ use Rattle.archive.proofs.empty.Kinds as empty-kinds
 use Rattle.archive.proofs.empty.Reads as empty-reads
 use Rattle.archive.proofs.empty.Met as empty-met
 use Rattle.archive.proofs.empty.Statement as empty-statement
+use Rattle.archive.proofs.figures_of.Kinds as figures-of-kinds
+use Rattle.archive.proofs.figures_of.Reads as figures-of-reads
+use Rattle.archive.proofs.figures_of.Met as figures-of-met
+use Rattle.archive.proofs.figures_of.Statement as figures-of-statement
 use Rattle.archive.proofs.file.Kinds as file-kinds
 use Rattle.archive.proofs.file.Reads as file-reads
 use Rattle.archive.proofs.file.Met as file-met
@@ -74,16 +78,27 @@ demand3 {b} {cs = cs} {rs = rs} (next t h) =
 -- ── the functions meet the contracts whose readings the theorem is about
 
 pub met : {M : Type 1}
-    → empty-statement.statement M × file-statement.statement M × show-statement.statement M × show-refusal-statement.statement M × worst-statement.statement M
+    → empty-statement.statement M
+    × file-statement.statement M
+    × show-statement.statement M
+    × show-refusal-statement.statement M
+    × worst-statement.statement M
+    × figures-of-statement.statement M
     × work-out-statement.statement M
-met = (empty-met.met, file-met.met, show-met.met, show-refusal-met.met, worst-met.met, work-out-met.met)
+met = (empty-met.met, file-met.met, show-met.met, show-refusal-met.met, worst-met.met, figures-of-met.met, work-out-met.met)
 
 -- ── nothing is asked of a caller, so that every call can be made
 
 pub asks-nothing : (κs : Lfts 1) (κs₂ : Lfts 2) (e : kinds.Dens κs empty-kinds.ps) (f : kinds.Dens κs₂ file-kinds.ps) (s : kinds.Dens κs show-kinds.ps)
-    (t : kinds.Dens κs show-refusal-kinds.ps) (w : kinds.Dens κs worst-kinds.ps) (o : kinds.Dens κs work-out-kinds.ps)
-    → empty-reads.Asked κs e × file-reads.Asked κs₂ f × show-reads.Asked κs s × show-refusal-reads.Asked κs t × worst-reads.Asked κs w × work-out-reads.Asked κs o
-asks-nothing κs κs₂ e f s t w o = (tt, tt, tt, tt, tt, tt)
+    (t : kinds.Dens κs show-refusal-kinds.ps) (w : kinds.Dens κs worst-kinds.ps) (g : kinds.Dens κs figures-of-kinds.ps) (o : kinds.Dens κs work-out-kinds.ps)
+    → empty-reads.Asked κs e
+    × file-reads.Asked κs₂ f
+    × show-reads.Asked κs s
+    × show-refusal-reads.Asked κs t
+    × worst-reads.Asked κs w
+    × figures-of-reads.Asked κs g
+    × work-out-reads.Asked κs o
+asks-nothing κs κs₂ e f s t w g o = (tt, tt, tt, tt, tt, tt, tt)
 
 -- ── every list of calls has a history, whatever the buffer and the used length
 

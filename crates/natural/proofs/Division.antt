@@ -2,6 +2,7 @@
 --   take-again     what is left to do is as at entry
 --   divide-again   a turn
 --   divide-done    the loop ran to the lowest limb
+--   divided-by-one a division that leaves all as it is
 use mathlib.Core.Path.{_≡_, sym, ap, _∙_}
 use mathlib.Core.List.{List}
 use Prim.Native.Nat.{ℕ, zero, suc, _+_, _-_, _*_, _≤_, _<_}
@@ -36,3 +37,6 @@ divide-again l l₀ d r (suc j) q s p h len e inv st =
 pub divide-done : (l l₀ : List ℕ) (d r i : ℕ) → i ≤ 0 → value (drop i l₀) ≡ value (drop i l) * d + r → value l₀ ≡ value l * d + r
 divide-done l l₀ d r zero h inv = inv
 divide-done l l₀ d r (suc i) h inv = absurd (not-suc-le-zero h)
+
+pub divided-by-one : (v d : ℕ) → d ≡ 1 → (v ≡ v * d + 0) × (0 < d)
+divided-by-one v d e = rw e (omega arith, omega arith)

@@ -431,13 +431,24 @@ fn up(q: u64, left: u64) -> u64
     q + 1
 }
 
+// Divides by d as `divide` does; where d is 1 there is nothing to do.
+fn divide_out(limbs: &mut [u32], d: u32) -> u32
+    requires { ⌜ 0 < d ⌝ }
+    ensures { λ r. ⌜ (value (now (limbs .entry)) ≡ value (now (limbs .exit)) * d + r) × (r < d) ⌝ }
+{
+    if d == 1 {
+        return 0;
+    }
+    divide(limbs, d)
+}
+
 // The number over 2 ^ s * d, and one more where anything is left over of it or, by `below`, below it.
 fn quotient_up(limbs: &mut [u32], s: u32, d: u32, below: u64) -> u64
     requires { ⌜ (s < 32) × (0 < d) × (below ≤ 1) ⌝ }
     ensures { λ r. ⌜ r ≡ min 18446744073709551615 (value (now (limbs .entry)) / (2 ^ s * d) + min 1 (below + value (now (limbs .entry)) % (2 ^ s * d))) ⌝ }
 {
     let a = shift_down(limbs, s);
-    let b = divide(limbs, d);
+    let b = divide_out(limbs, d);
     up(to_u64(limbs), below + wide(a) + wide(b))
 }
 

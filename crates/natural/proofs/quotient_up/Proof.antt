@@ -9,7 +9,7 @@ returns c =
     let n = c .before .before .before in
     let d = n .before .before .before .before in
     let s = d .before .before .before .before in
-    rounded _ _ _ _ _ _ _ _ _ _ _ _ (s .shift-down .ensures .0) (s .shift-down .ensures .1) (d .divide .ensures .0) (d .divide .ensures .1) (c .before .before .wide .ensures .0) (c .before .wide2 .ensures .0) (n .to-u64 .ensures) (c .up .ensures)
+    rounded _ _ _ _ _ _ _ _ _ _ _ _ (s .shift-down .ensures .0) (s .shift-down .ensures .1) (d .divide-out .ensures .0) (d .divide-out .ensures .1) (c .before .before .wide .ensures .0) (c .before .wide2 .ensures .0) (n .to-u64 .ensures) (c .up .ensures)
 
 pub quotient-up-spec : {M : Type 1} → statement M
 quotient-up-spec =
