@@ -1,7 +1,7 @@
--- The fields cover the record, each byte once: `fields-cover`. An accepted filing leaves each field's bytes at its offset: `filed-field`.
+-- The fields cover the record, each byte once: `fields-cover`; those of the case are the fields that it is written by: `fields-of-case`. An accepted filing leaves each field's bytes at its offset: `filed-field`.
 use mathlib.Core.Path.{_≡_, refl, _∙_}
 use mathlib.Core.Bool.{Bool, true, _&&_}
-use mathlib.Core.List.{List, [], _∷_, _++_, append-assoc}
+use mathlib.Core.List.{List, [], _∷_, _++_, append-assoc, map}
 use Prim.Native.Nat.{ℕ, zero, suc, _+_, _*_, _≤_, _<_}
 use native.Mathlib.Nat.{le-of-suc-le-suc, not-suc-le-zero, mul-suc}
 use native.Mathlib.Omega.{arith}
@@ -11,6 +11,7 @@ use lib.ListN.{length, take, drop, getD, length-drop}
 use lib.Seq.{take-at, take-append-le, drop-append-le, drop-append-add, length-take-le}
 use Rattle.binary64.specs.Bytes.{bytesOf, splice}
 use Rattle.binary64.proofs.Numbers.{length-bytesOf}
+use Rattle.scenario.specs.Builder.{caseBytes}
 use Rattle.scenario.proofs.Bools.{both}
 use Rattle.archive.specs.Layout.{Line, figureBytes, recordOf, trailer, recordSize, edition}
 use Rattle.archive.specs.Fields.{Source, given, figure, Field, field, fields, coversFrom, fieldBytes}
@@ -22,6 +23,14 @@ use Rattle.archive.proofs.Trailer.{free-facts}
 
 pub fields-cover : coversFrom 0 fields ≡ true
 fields-cover = refl
+
+-- the case's fields are those that a case is written by, in the table's order
+pub fields-of-case : (kind row route user t dossier a b c d e f : ℕ)
+    → map (λ (x : Field). bytesAt (caseBytes kind row route user t dossier a b c d e f) (x .offset) (x .width)) (take 12 fields)
+    ≡ (kind ∷ []) ∷ (row ∷ []) ∷ (route ∷ []) ∷ (user ∷ []) ∷ bytesOf 4 t ∷ bytesOf 8 dossier
+    ∷ bytesOf 8 a ∷ bytesOf 8 b ∷ bytesOf 8 c ∷ bytesOf 8 d ∷ bytesOf 8 e ∷ bytesOf 8 f ∷ []
+unfolding caseBytes bytesOf
+fields-of-case kind row route user t dossier a b c d e f = refl
 
 -- ── a field in the record of a line
 

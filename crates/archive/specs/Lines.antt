@@ -58,7 +58,7 @@ firstWith m x (l ∷ ls) = cond (eqb (figure m l) x) 0 (suc (firstWith m x ls))
 unfoldable pub worstOf : ℕ → List Line → ℕ
 worstOf m ls = firstWith m (highest m ls) ls
 
--- What it is to be the worst line: none is higher, and none earlier is as high. `worst-is-highest` says that worstOf names it, and it alone.
+-- What it is to be the worst line: none is higher, and none earlier is as high. `worst-is-highest` says that worstOf names it, `worst-is-unique` that nothing else is it.
 pub record IsWorst (m : ℕ) (ls : List Line) (k : ℕ) : Type 0 where
   pub there : k < length ls
   pub none-higher : (j : ℕ) → j < length ls → figure m (getD ls j noLine) ≤ figure m (getD ls k noLine)

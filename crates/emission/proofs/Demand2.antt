@@ -4,9 +4,11 @@
 --   figure-exact        an accepted result's figures are the exact values rounded up
 --   figure-bounds       each is within the bounds: never below, hardly above, zero exactly when the value is zero
 --   zero-iff            the last part by itself
+--   refusal-first, refused-no-figure   demand 1: the refusal is the first condition that holds, and beside one stand zeros
+--   figures-within      the bounds of an accepted case's figures, wherever they are worked out or filed
 -- That no lower number is 0 is in Positive.
 use mathlib.Core.Path.{_≡_, sym, ap, _∙_}
-use mathlib.Core.List.{List, map}
+use mathlib.Core.List.{List, [], _∷_, map}
 use Prim.Native.Nat.{ℕ, _+_, _*_, _^_, _≤_, _<_}
 use native.Mathlib.Nat.{mul-le-mul-right}
 use native.Mathlib.Omega.{arith}
@@ -18,8 +20,11 @@ use borrow.Fn.Kinds as kinds
 use Rattle.natural.specs.Ceiling.{ceiling}
 use Rattle.natural.proofs.Ceiling.{ceiling-not-below, ceiling-less-than-one-above, ceiling-zero}
 use Rattle.emission.specs.Ratio.{Ratio, _over_, roundedUp}
-use Rattle.emission.specs.Figures.{exactValues, WithinBounds, margin}
-use Rattle.emission.proofs.Accepted.{figures-exact}
+use Rattle.scenario.specs.Refusal.{IsFirst}
+use Rattle.scenario.specs.Case.{refusals, refusalOf}
+use Rattle.scenario.proofs.Refusals.{refusal-order}
+use Rattle.emission.specs.Figures.{exactValues, figuresOf, WithinBounds, margin}
+use Rattle.emission.proofs.Accepted.{figures-exact, figures-refused}
 use Rattle.emission.proofs.Positive.{lower-not-zero}
 use Rattle.emission.proofs.work_out.Kinds as work-out-kinds
 use Rattle.emission.proofs.work_out.Reads as work-out-reads
@@ -37,6 +42,7 @@ pub bounds-of-ceiling : (m : ℕ) (p : Ratio) → 0 < p .lower → WithinBounds 
 bounds-of-ceiling m p h =
     let z = ceiling-zero (p .upper) (p .lower) h in
     record {
+      lower-not-0 = h;
       never-below = ceiling-not-below (p .upper) (p .lower) h;
       not-far-above = above (p .upper) (p .lower) (roundedUp p) (2 ^ m) (ceiling-less-than-one-above (p .upper) (p .lower) h);
       zero-only = z .0;
@@ -78,3 +84,20 @@ figure-bounds = figure-bounds-at margin
 pub zero-iff : (c : Call) → c .result .refusal ≡ 0 → (i : ℕ) → i < 4
     → (getD (c .result .figures) i 0 ≡ 0 → getD (exactValues (bytes c)) i (0 over 1) .upper ≡ 0) × (getD (exactValues (bytes c)) i (0 over 1) .upper ≡ 0 → getD (c .result .figures) i 0 ≡ 0)
 zero-iff c e i h = let w = figure-bounds c e i h in (w .zero-only, w .zero-then)
+
+-- ── demand 1, of the same call
+
+pub refusal-first : (c : Call) → IsFirst (refusals (bytes c)) (c .result .refusal)
+refusal-first c = refusal-order (bytes c) (c .result .refusal) .0 (sym (c .kept .0))
+
+pub refused-no-figure : (c : Call) → (c .result .refusal ≡ 0 → ⊥) → c .result .figures ≡ 0 ∷ 0 ∷ 0 ∷ 0 ∷ []
+refused-no-figure c h = c .kept .1 ∙ sym (figures-refused (bytes c) (λ (z : refusalOf (bytes c) ≡ 0). h (c .kept .0 ∙ z)))
+
+-- ── of figures by their definition, as filing stores them
+
+pub figures-within : (b : List ℕ) → refusalOf b ≡ 0 → (i : ℕ) → i < 4 → WithinBounds margin (getD (exactValues b) i (0 over 1)) (getD (figuresOf b) i 0)
+unfolding ceiling
+figures-within b e i h =
+    let f : getD (figuresOf b) i 0 ≡ roundedUp (getD (exactValues b) i (0 over 1)) =
+    ap (λ (l : List ℕ). getD l i 0) (figures-exact b e) ∙ List·getD-map roundedUp (exactValues b) i (0 over 1) in
+    rw f (bounds-of-ceiling margin (getD (exactValues b) i (0 over 1)) (lower-not-zero b e i h))

@@ -3,7 +3,7 @@
 use mathlib.Core.Path.{_≡_}
 use mathlib.Core.Bool.{cond}
 use mathlib.Core.List.{List, [], _∷_, map}
-use Prim.Native.Nat.{ℕ, _+_, _*_, _^_, _≤_}
+use Prim.Native.Nat.{ℕ, _+_, _*_, _^_, _≤_, _<_}
 use lib.Dec.{eqb}
 use Rattle.scenario.specs.Case.{routeOf, refusalOf}
 use Rattle.scenario.specs.Decoding.{caseOf, headOf}
@@ -30,8 +30,9 @@ unfoldable pub figuresOf : List ℕ → List ℕ
 figuresOf b = cond (eqb (refusalOf b) 0) (map roundedUp (exactValues b)) (0 ∷ 0 ∷ 0 ∷ 0 ∷ [])
 
 -- Demand 2, of a figure and its exact value p: never below, above by at most one part in 2 ^ margin of p plus one microgram,
--- and zero exactly when p is zero; each by multiplying across.
+-- and zero exactly when p is zero; each by multiplying across, which says something since p's lower number is not 0.
 pub record WithinBounds (margin : ℕ) (p : Ratio) (figure : ℕ) : Type 0 where
+  pub lower-not-0 : 0 < p .lower
   pub never-below : p .upper ≤ figure * p .lower
   pub not-far-above : figure * p .lower * 2 ^ margin ≤ p .upper * 2 ^ margin + p .upper + p .lower * 2 ^ margin
   pub zero-only : figure ≡ 0 → p .upper ≡ 0
