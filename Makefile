@@ -9,6 +9,8 @@
 
 CFLAGS = -std=c11 -O2 -Wall -Wextra -Wpedantic -Werror
 LIB = target/staticlib/libcsorvelin.a
+# Without it the time of a peer's short loop depends on where the linker puts it.
+BENCH_CFLAGS = $(CFLAGS) -falign-loops=32 -Iinclude -Ibench
 GMP := $(shell printf '\043include <gmp.h>\n' | $(CC) -E - >/dev/null 2>&1 && echo yes)
 HOST = --quiet --offline --release --manifest-path host/Cargo.toml
 COMMAND = ../../host/target/release/csorvelin
@@ -54,10 +56,10 @@ run: host
 bench: lib
 	@mkdir -p target/c
 ifeq ($(GMP),yes)
-	@$(CC) $(CFLAGS) -DWITH_GMP -Iinclude -Ibench bench/bench.c bench/peer_scan.c bench/peer_gmp.c $(LIB) -lgmp -o target/c/bench
+	@$(CC) $(BENCH_CFLAGS) -DWITH_GMP bench/bench.c bench/peer_scan.c bench/peer_gmp.c $(LIB) -lgmp -o target/c/bench
 else
 	@echo 'bench: gmp.h is not there (Debian: libgmp-dev); work out is not measured'
-	@$(CC) $(CFLAGS) -Iinclude -Ibench bench/bench.c bench/peer_scan.c $(LIB) -o target/c/bench
+	@$(CC) $(BENCH_CFLAGS) bench/bench.c bench/peer_scan.c $(LIB) -o target/c/bench
 endif
 	@target/c/bench
 

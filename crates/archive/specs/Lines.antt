@@ -54,6 +54,11 @@ unfoldable pub firstWith : ℕ → ℕ → List Line → ℕ
 firstWith m x [] = 0
 firstWith m x (l ∷ ls) = cond (eqb (figure m l) x) 0 (suc (firstWith m x ls))
 
+-- the number of the first line whose figure is above x, and how many lines there are where none is
+unfoldable pub firstAbove : ℕ → ℕ → List Line → ℕ
+firstAbove m x [] = 0
+firstAbove m x (l ∷ ls) = cond (ltb x (figure m l)) 0 (suc (firstAbove m x ls))
+
 -- the number of the line with the highest figure, the first filed among equals
 unfoldable pub worstOf : ℕ → List Line → ℕ
 worstOf m ls = firstWith m (highest m ls) ls

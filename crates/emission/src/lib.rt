@@ -98,7 +98,7 @@ pub struct Worked {
 pub fn work_out(case: &[u8]) -> Worked
     ensures { λ r. ⌜ (r .refusal ≡ refusalOf (now (case .entry))) × (r .figures ≡ figuresOf (now (case .entry))) ⌝ }
 {
-    match scenario::decode(case) {
+    match scenario::decode(&case[..]) {
         Decoded::Refused(number) => Worked {
             refusal: number,
             figures: [0, 0, 0, 0],

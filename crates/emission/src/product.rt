@@ -67,7 +67,7 @@ fn finish(limbs: &mut [u32], n: usize, depth: usize, quantities: &[f64], d: u32)
     requires { ⌜ (n + 2 * length (now quantities) ≤ length (now limbs)) × (length (now quantities) ≤ 5) × (depth ≤ 2148) × (0 < d) × Each (now quantities) ⌝ }
     ensures { λ r. ⌜ r ≡ min 18446744073709551615 (roundedUp ((value (take n (now (limbs .entry))) over 2 ^ depth) · chain (map quantity (now (quantities .entry))) · 1 over d)) ⌝ }
 {
-    let p = multiply(limbs, n, depth, quantities);
+    let p = multiply(limbs, n, depth, &quantities[..]);
     let m = p.count;
     natural::round_up(&mut limbs[..m], p.depth, d)
 }
@@ -79,7 +79,7 @@ pub fn product_up(quantities: &[f64], k: u64, d: u32) -> u64
 {
     let mut limbs = [0u32; 12];
     let n = natural::grow(&mut limbs, 0, 1, k);
-    finish(&mut limbs, n, 0, quantities, d)
+    finish(&mut limbs, n, 0, &quantities[..], d)
 }
 
 // k / d times 1 - x times the quantities, rounded up.
@@ -91,7 +91,7 @@ pub fn remainder_up(x: f64, quantities: &[f64], k: u64, d: u32) -> u64
     let mut limbs = [0u32; 46];
     let n = natural::complement(&mut limbs, q.depth, q.significand);
     let m = times(&mut limbs, n, k);
-    finish(&mut limbs, m, q.depth, quantities, d)
+    finish(&mut limbs, m, q.depth, &quantities[..], d)
 }
 
 fn deeper(a: usize, b: usize) -> usize
@@ -121,7 +121,7 @@ pub fn sum_up(a: f64, b: f64, quantities: &[f64], k: u64, d: u32) -> u64
     let mut limbs = [0u32; 44];
     let n = natural::sum(&mut limbs, first, second);
     let m = times(&mut limbs, n, k);
-    finish(&mut limbs, m, depth, quantities, d)
+    finish(&mut limbs, m, depth, &quantities[..], d)
 }
 
 // The number in the first n limbs, over 2^depth, times a quantity, divided by d and rounded up. The limbs are not changed.
