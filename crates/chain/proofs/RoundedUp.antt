@@ -1,7 +1,8 @@
 -- Laws on rounding up over 2 ^ k * d, where the largest u64 is 18446744073709551615.
---   rounded      `quotient_up`: a shift, a division, and one more where anything is left
---   all-below    `round_up` where all limbs fall below 2 ^ k
---   not-below    `round_up` where not
+--   divided-by-one  `divide_out` where d is 1
+--   rounded         `quotient_up`: a shift, a division, and one more where anything is left
+--   all-below       `round_up` where all limbs fall below 2 ^ k
+--   not-below       `round_up` where not
 use mathlib.Core.Path.{_≡_, sym, ap, _∙_}
 use mathlib.Core.List.{List}
 use Prim.Native.Nat.{ℕ, zero, suc, _+_, _-_, _*_, _/_, _%_, _^_, _≤_, _<_, min}
@@ -14,6 +15,9 @@ use Rattle.natural.specs.Value.{value}
 use Rattle.natural.specs.Ceiling.{ceiling}
 use Rattle.natural.proofs.Value.{weight-split, value-split, value-below, value-small, part-from}
 use Rattle.natural.proofs.Ceiling.{ceiling-of}
+
+pub divided-by-one : (v d : ℕ) → d ≡ 1 → (v ≡ v * d + 0) × (0 < d)
+divided-by-one v d e = rw e (omega arith, omega arith)
 
 -- dividing by p and then by d
 twice : (p d v u q a b : ℕ) → v ≡ u * p + a → a < p → u ≡ q * d + b → b < d → (v / (p * d) ≡ q) × (v % (p * d) ≡ b * p + a)

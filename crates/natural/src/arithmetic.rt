@@ -40,23 +40,15 @@ fn add_same(limbs: &mut [u32], other: &[u32]) -> u32
     carry
 }
 
-// Stops where nothing is carried any more.
+// Where there is no carry there is nothing to do.
 fn add_carry(limbs: &mut [u32], carry: u32) -> u32
     requires { ⌜ carry ≤ 1 ⌝ }
     ensures { λ r. ⌜ (value (now (limbs .exit)) + r * 2 ^ (32 * length (now (limbs .entry))) ≡ value (now (limbs .entry)) + carry) × (r ≤ 1) ⌝ }
 {
-    let mut left = carry;
-    let mut i = 0;
-    while i < limbs.len() {
-        if left == 0 {
-            return 0;
-        }
-        let s = add_step(limbs[i], 0, left);
-        limbs[i] = s.limb;
-        left = s.carry;
-        i += 1;
+    if carry == 0 {
+        return 0;
     }
-    left
+    times_add(limbs, 1, 1) as u32
 }
 
 // Adds; returns what is carried out of the top limb (GMP's mpn_add).

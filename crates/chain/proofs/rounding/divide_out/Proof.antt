@@ -1,6 +1,6 @@
 -- By 1 nothing changes; otherwise it is `divide`.
 use borrow.Author.Needs.{needs}
-use Rattle.natural.proofs.Division.{divided-by-one}
+use Rattle.chain.proofs.RoundedUp.{divided-by-one}
 use Rattle.chain.proofs.rounding.divide_out.Statement.{statement}
 use Rattle.chain.proofs.rounding.divide_out.Tie as tie
 
