@@ -22,7 +22,7 @@ power-pos w = one-le-pow w 256 (lit≤ tt)
 -- the first w bytes, and the v behind them
 pub numberOf-halves : (l : List ℕ) (w v : ℕ) → numberOf (take (w + v) l) ≡ numberOf (take w l) + 256 ^ w * numberOf (take v (drop w l))
 unfolding numberOf
-numberOf-halves l zero v = rw (zero-add, pow-zero, one-mul, zero-add)
+numberOf-halves l zero v = rw (zero-add v, pow-zero, one-mul, zero-add)
 numberOf-halves [] (suc w) v =
     let z : 256 ^ suc w * numberOf (take v []) ≡ 256 ^ suc w * 0 = ap (λ (l : List ℕ). 256 ^ suc w * numberOf l) (take-nil v) in
     rw suc-add (omega arith)
