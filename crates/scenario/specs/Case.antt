@@ -70,6 +70,9 @@ pub record Kind : Type 0 where
 abbrev pub kind : Range → Range → Range → List Listing → Range → List Listing → Kind
 kind r u t q t′ q′ = record { rows = r; users = u; ownCount = t; own = q; rowCount = t′; row = q′ }
 
+abbrev pub noneListed : List Listing
+noneListed = unlisted ∷ unlisted ∷ unlisted ∷ unlisted ∷ unlisted ∷ unlisted ∷ []
+
 -- The seven kinds. Kind 5 has no row but 0: what stands for its other rows is never looked at.
 unfoldable pub kinds : List Kind
 kinds =
@@ -92,7 +95,7 @@ kinds =
     -- 5. formulation
     ∷ kind (0 to 0) (0 to 0)
     (1 to 366) (upTo 1000000 ∷ fraction ∷ fraction ∷ fraction ∷ fraction ∷ unlisted ∷ [])
-    (0 to 0) (unlisted ∷ unlisted ∷ unlisted ∷ unlisted ∷ unlisted ∷ unlisted ∷ [])
+    (0 to 0) noneListed
     -- 6. hygiene, consumption
     ∷ kind (0 to 5) (0 to 0)
     (0 to 0) (fraction ∷ fraction ∷ unlisted ∷ upTo 10000 ∷ upTo 100 ∷ fraction ∷ [])
@@ -105,7 +108,7 @@ kinds =
 
 -- a kind that is not there allows nothing
 abbrev pub noKind : Kind
-noKind = kind (1 to 0) (1 to 0) (1 to 0) [] (1 to 0) []
+noKind = kind (1 to 0) (1 to 0) (1 to 0) noneListed (1 to 0) noneListed
 
 -- kinds are numbered from 1
 unfoldable pub kindAt : ℕ → Kind

@@ -1,12 +1,15 @@
--- What the functions of this crate hold a case's quantities and limits as: patterns.
-use mathlib.Core.Path.{_≡_}
-use mathlib.Core.Bool.{false}
-use mathlib.Core.List.{List, [], _∷_}
-use Prim.Native.Nat.{ℕ, _*_}
-use lib.Dec.{eqb}
+-- What the functions of this crate hold in numbers: ranges by their ends, quantities and limits as patterns.
+use mathlib.Core.Bool.{not, _&&_, _||_}
+use mathlib.Core.List.{List, [], _∷_, map}
+use Prim.Native.Nat.{ℕ}
+use lib.Dec.{leb, eqb}
+use lib.Ieee.{binary64, ofInt, toBits}
+use lib.IntN.{pos}
 use lib.ListN.{getD}
-use Rattle.binary64.specs.Quantity.{whole, one}
-use Rattle.scenario.specs.Case.{Listing, unlisted, upTo, patternAt}
+use Rattle.scenario.specs.Case.{Listing, unlisted, upTo, Kind, patternAt, notNumber, anyNotNumber, anyNotZeroBytes, anyOverLimit}
+use Rattle.scenario.specs.declared.quantities.Faults.{Faults}
+
+-- ── quantities
 
 -- the patterns of a to f
 abbrev pub patternsOf : List ℕ → List ℕ
@@ -16,11 +19,33 @@ patternsOf b = patternAt b 0 ∷ patternAt b 1 ∷ patternAt b 2 ∷ patternAt b
 abbrev pub at : List ℕ → ℕ → ℕ
 at ps i = getD ps i 0
 
--- a limit as a pattern: 0 for an unlisted quantity, otherwise the pattern whose exact value is the limit
-abbrev pub IsLimit : Listing → ℕ → Type 0
-IsLimit unlisted m = m ≡ 0
-IsLimit (upTo n) m = (whole m ≡ n * one) × (eqb m 0 ≡ false)
+-- ── the table of kinds
 
--- the limits of a to f
-unfoldable pub AreLimits : List Listing → List ℕ → Type 0
-AreLimits ls ms = (i : ℕ) → IsLimit (getD ls i unlisted) (getD ms i 0)
+-- from and to of the rows, of the users, of T with row 0, of T with the paper's rows
+unfoldable pub boundsOf : Kind → List ℕ
+boundsOf k =
+    k .rows .from ∷ k .rows .to ∷ k .users .from ∷ k .users .to
+    ∷ k .ownCount .from ∷ k .ownCount .to ∷ k .rowCount .from ∷ k .rowCount .to ∷ []
+
+-- 0 for an unlisted quantity, otherwise the pattern of the limit
+unfoldable pub limitPattern : Listing → ℕ
+limitPattern unlisted = 0
+limitPattern (upTo n) = toBits binary64 (ofInt binary64 (pos n))
+
+abbrev pub limitPatterns : List Listing → List ℕ
+limitPatterns = map limitPattern
+
+-- with row 0, with the paper's rows
+unfoldable pub limitsOf : Kind → List (List ℕ)
+limitsOf k = limitPatterns (k .own) ∷ limitPatterns (k .row) ∷ []
+
+-- ── refusals 8, 9 and 10
+
+-- what was found, with a quantity by the pattern m of its limit and its own, p
+unfoldable pub addFaults : Faults → ℕ → ℕ → Faults
+addFaults found m p =
+    record { invalid = found .invalid || notNumber p; stray = found .stray || (eqb m 0 && not (eqb p 0)); over = found .over || (not (eqb m 0) && not (leb p m)) }
+
+-- of any of the six
+unfoldable pub faultsOf : ℕ → ℕ → (ℕ → ℕ) → Faults
+faultsOf k row p = record { invalid = anyNotNumber p; stray = anyNotZeroBytes k row p; over = anyOverLimit k row p }

@@ -2,12 +2,12 @@
 ghost use mathlib.Core.Path.{_≡_};
 ghost use lib.ListN.{length};
 ghost use Rattle.scenario.specs.Refusal.{firstOf};
-ghost use Rattle.scenario.specs.Case.{kindUnknown, rowUnknown, routeNotAllowed, userNotAllowed, countNotAllowed, headRefusals};
+ghost use Rattle.scenario.specs.Case.{kindUnknown, routeNotAllowed, headRefusals};
 ghost use Rattle.scenario.specs.Decoding.{headOf};
 use crate::Head;
-use crate::kinds::count_allowed;
-use crate::kinds::row_allowed;
-use crate::kinds::user_allowed;
+use crate::kinds::count_not_allowed;
+use crate::kinds::row_unknown;
+use crate::kinds::user_not_allowed;
 
 pub fn head_at(case: &[u8]) -> Head
     requires { ⌜ length (now case) ≡ 64 ⌝ }
@@ -28,30 +28,12 @@ fn kind_unknown(kind: u8) -> bool
     !((1 <= kind) & (kind <= 7))
 }
 
-fn row_unknown(kind: u8, row: u8) -> bool
-    ensures { λ r. ⌜ r ≡ rowUnknown kind row ⌝ }
-{
-    !row_allowed(kind, row)
-}
-
 // Route 2 is for kinds 1 to 3, with row 0 or 3 to 7.
 fn route_not_allowed(kind: u8, row: u8, route: u8) -> bool
     ensures { λ r. ⌜ r ≡ routeNotAllowed kind row route ⌝ }
 {
     let outdoors = ((1 <= kind) & (kind <= 3)) & ((row == 0) | ((3 <= row) & (row <= 7)));
     !((route == 1) | ((route == 2) & outdoors))
-}
-
-fn user_not_allowed(kind: u8, user: u8) -> bool
-    ensures { λ r. ⌜ r ≡ userNotAllowed kind user ⌝ }
-{
-    !user_allowed(kind, user)
-}
-
-fn count_not_allowed(kind: u8, row: u8, t: u32) -> bool
-    ensures { λ r. ⌜ r ≡ countNotAllowed kind row t ⌝ }
-{
-    !count_allowed(kind, row, t)
 }
 
 // The first of refusals 2 to 7 that holds, 0 for none.

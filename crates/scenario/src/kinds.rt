@@ -1,124 +1,108 @@
-// What each kind allows: its rows, its users, its T and the limits of its quantities.
+// What each kind allows, as two tables: the bounds of its fields, and the limits of its quantities.
 ghost use mathlib.Core.Path.{_≡_};
-ghost use Rattle.scenario.specs.Case.{within, kindAt, countsAt, listingsAt};
-ghost use Rattle.scenario.specs.Patterns.{AreLimits};
+ghost use mathlib.Core.Bool.{not};
+ghost use Rattle.scenario.specs.Case.{within, _to_, kindAt, listingsAt, rowUnknown, userNotAllowed, countNotAllowed};
+ghost use Rattle.scenario.specs.Patterns.{boundsOf, limitPatterns, limitsOf};
 
-pub fn row_allowed(kind: u8, row: u8) -> bool
-    ensures { λ r. ⌜ r ≡ within (kindAt kind .rows) row ⌝ }
+// From and to of the rows, of the users, of T with row 0 and of T with the paper's rows. What is no kind allows nothing.
+fn bounds_of(kind: u8) -> [u32; 8]
+    ensures { λ r. ⌜ r ≡ boundsOf (kindAt kind) ⌝ }
 {
     match kind {
-        1 => row <= 7,
-        2 => row <= 7,
-        3 => row <= 7,
-        4 => row <= 1,
-        5 => row == 0,
-        6 => row <= 5,
-        7 => row <= 1,
-        _ => false,
+        1 => [0, 7, 0, 0, 31, 36500, 0, 0],
+        2 => [0, 7, 0, 0, 31, 36500, 0, 0],
+        3 => [0, 7, 1, 2, 1, 100, 0, 0],
+        4 => [0, 1, 0, 0, 1, 366, 0, 0],
+        5 => [0, 0, 0, 0, 1, 366, 0, 0],
+        6 => [0, 5, 0, 0, 0, 0, 0, 0],
+        7 => [0, 1, 0, 0, 1, 100, 0, 0],
+        _ => [1, 0, 1, 0, 1, 0, 1, 0],
     }
 }
 
-pub fn user_allowed(kind: u8, user: u8) -> bool
-    ensures { λ r. ⌜ r ≡ within (kindAt kind .users) user ⌝ }
+fn outside(low: u32, high: u32, n: u32) -> bool
+    ensures { λ r. ⌜ r ≡ not (within (low to high) n) ⌝ }
 {
-    match kind {
-        1 => user == 0,
-        2 => user == 0,
-        3 => (1 <= user) & (user <= 2),
-        4 => user == 0,
-        5 => user == 0,
-        6 => user == 0,
-        7 => user == 0,
-        _ => false,
-    }
+    !((low <= n) & (n <= high))
 }
 
-// T with row 0.
-fn own_count_allowed(kind: u8, t: u32) -> bool
-    ensures { λ r. ⌜ r ≡ within (kindAt kind .ownCount) t ⌝ }
+pub fn row_unknown(kind: u8, row: u8) -> bool
+    ensures { λ r. ⌜ r ≡ rowUnknown kind row ⌝ }
 {
-    match kind {
-        1 => (31 <= t) & (t <= 36500),
-        2 => (31 <= t) & (t <= 36500),
-        3 => (1 <= t) & (t <= 100),
-        4 => (1 <= t) & (t <= 366),
-        5 => (1 <= t) & (t <= 366),
-        6 => t == 0,
-        7 => (1 <= t) & (t <= 100),
-        _ => false,
-    }
+    let bounds = bounds_of(kind);
+    outside(bounds[0], bounds[1], row as u32)
 }
 
-// T with the paper's rows.
-fn row_count_allowed(kind: u8, t: u32) -> bool
-    ensures { λ r. ⌜ r ≡ within (kindAt kind .rowCount) t ⌝ }
+pub fn user_not_allowed(kind: u8, user: u8) -> bool
+    ensures { λ r. ⌜ r ≡ userNotAllowed kind user ⌝ }
 {
-    (1 <= kind) & (kind <= 7) & (t == 0)
+    let bounds = bounds_of(kind);
+    outside(bounds[2], bounds[3], user as u32)
 }
 
-pub fn count_allowed(kind: u8, row: u8, t: u32) -> bool
-    ensures { λ r. ⌜ r ≡ within (countsAt kind row) t ⌝ }
+pub fn count_not_allowed(kind: u8, row: u8, t: u32) -> bool
+    ensures { λ r. ⌜ r ≡ countNotAllowed kind row t ⌝ }
 {
+    let bounds = bounds_of(kind);
     if row == 0 {
-        own_count_allowed(kind, t)
+        outside(bounds[4], bounds[5], t)
     } else {
-        row_count_allowed(kind, t)
+        outside(bounds[6], bounds[7], t)
     }
 }
 
 // The patterns of limits.
-const UP_TO_1: u64 = 0x3ff0_0000_0000_0000;
+const TO_1: u64 = 0x3ff0_0000_0000_0000;
 
-const UP_TO_5: u64 = 0x4014_0000_0000_0000;
+const TO_5: u64 = 0x4014_0000_0000_0000;
 
-const UP_TO_100: u64 = 0x4059_0000_0000_0000;
+const TO_100: u64 = 0x4059_0000_0000_0000;
 
-const UP_TO_1000: u64 = 0x408f_4000_0000_0000;
+const TO_1000: u64 = 0x408f_4000_0000_0000;
 
-const UP_TO_5000: u64 = 0x40b3_8800_0000_0000;
+const TO_5000: u64 = 0x40b3_8800_0000_0000;
 
-const UP_TO_10000: u64 = 0x40c3_8800_0000_0000;
+const TO_10000: u64 = 0x40c3_8800_0000_0000;
 
-const UP_TO_1000000: u64 = 0x412e_8480_0000_0000;
+const TO_1000000: u64 = 0x412e_8480_0000_0000;
 
-// Limits with row 0, 0 for an unlisted quantity.
-fn own_limits(kind: u8) -> [u64; 6]
-    ensures { λ r. ⌜ AreLimits (kindAt kind .own) r ⌝ }
+// Limits of a to f with row 0, then with the paper's rows; 0 for an unlisted quantity.
+fn limits_at(kind: u8) -> [[u64; 6]; 2]
+    ensures { λ r. ⌜ r ≡ limitsOf (kindAt kind) ⌝ }
 {
     match kind {
-        1 => [UP_TO_100, UP_TO_100, UP_TO_1, UP_TO_1000, 0, 0],
-        2 => [UP_TO_1, 0, UP_TO_1, UP_TO_1000, UP_TO_100, UP_TO_5000],
-        3 => [UP_TO_1, 0, 0, UP_TO_1000, UP_TO_100, UP_TO_5000],
-        4 => [UP_TO_1000000, UP_TO_1, UP_TO_1, 0, 0, 0],
-        5 => [UP_TO_1000000, UP_TO_1, UP_TO_1, UP_TO_1, UP_TO_1, 0],
-        6 => [UP_TO_1, UP_TO_1, 0, UP_TO_10000, UP_TO_100, UP_TO_1],
-        7 => [UP_TO_1, UP_TO_1, UP_TO_5, UP_TO_1, UP_TO_1, 0],
-        _ => [0; 6],
-    }
-}
-
-// Limits with the paper's rows, 0 for an unlisted quantity.
-fn row_limits(kind: u8) -> [u64; 6]
-    ensures { λ r. ⌜ AreLimits (kindAt kind .row) r ⌝ }
-{
-    match kind {
-        1 => [UP_TO_100, UP_TO_100, UP_TO_1, 0, 0, 0],
-        2 => [UP_TO_1, 0, UP_TO_1, 0, 0, 0],
-        3 => [UP_TO_1, 0, 0, 0, 0, 0],
-        4 => [UP_TO_1000000, UP_TO_1, UP_TO_1, 0, 0, 0],
-        5 => [0; 6],
-        6 => [UP_TO_1, UP_TO_1, 0, 0, 0, 0],
-        7 => [UP_TO_1, UP_TO_1, UP_TO_5, UP_TO_1, UP_TO_1, 0],
-        _ => [0; 6],
+        1 => [
+            [TO_100, TO_100, TO_1, TO_1000, 0, 0],
+            [TO_100, TO_100, TO_1, 0, 0, 0],
+        ],
+        2 => [
+            [TO_1, 0, TO_1, TO_1000, TO_100, TO_5000],
+            [TO_1, 0, TO_1, 0, 0, 0],
+        ],
+        3 => [
+            [TO_1, 0, 0, TO_1000, TO_100, TO_5000],
+            [TO_1, 0, 0, 0, 0, 0],
+        ],
+        4 => [
+            [TO_1000000, TO_1, TO_1, 0, 0, 0],
+            [TO_1000000, TO_1, TO_1, 0, 0, 0],
+        ],
+        5 => [[TO_1000000, TO_1, TO_1, TO_1, TO_1, 0], [0, 0, 0, 0, 0, 0]],
+        6 => [
+            [TO_1, TO_1, 0, TO_10000, TO_100, TO_1],
+            [TO_1, TO_1, 0, 0, 0, 0],
+        ],
+        7 => [
+            [TO_1, TO_1, TO_5, TO_1, TO_1, 0],
+            [TO_1, TO_1, TO_5, TO_1, TO_1, 0],
+        ],
+        _ => [[0, 0, 0, 0, 0, 0], [0, 0, 0, 0, 0, 0]],
     }
 }
 
 pub fn limits_of(kind: u8, row: u8) -> [u64; 6]
-    ensures { λ r. ⌜ AreLimits (listingsAt kind row) r ⌝ }
+    ensures { λ r. ⌜ r ≡ limitPatterns (listingsAt kind row) ⌝ }
 {
-    if row == 0 {
-        own_limits(kind)
-    } else {
-        row_limits(kind)
-    }
+    let limits = limits_at(kind);
+    if row == 0 { limits[0] } else { limits[1] }
 }

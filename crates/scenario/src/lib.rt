@@ -4,14 +4,14 @@ ghost use mathlib.Core.Path.{_≡_};
 ghost use mathlib.Core.Bool.{false};
 ghost use mathlib.Core.List.{_++_};
 ghost use Rattle.scenario.specs.Refusal.{firstOf};
-ghost use Rattle.scenario.specs.Case.{anyNotNumber, headRefusals, quantityRefusals, refusalOf};
+ghost use Rattle.scenario.specs.Case.{anyNotNumber, headRefusals, quantityRefusals};
 ghost use Rattle.scenario.specs.Patterns.{at};
 ghost use Rattle.scenario.specs.Decoding.{caseWith, caseOfPatterns, decoded};
 use quantities::quantity_at;
 
-pub mod fields;
-pub mod kinds;
-pub mod quantities;
+mod fields;
+mod kinds;
+mod quantities;
 
 // Row 0 of the city kinds: area in m2, volume in L/m2, density in kg/m3. Zero with the other rows.
 pub struct Site {
@@ -163,17 +163,6 @@ fn refusal_of(kind: u8, head: Head, p: &[u64; 6]) -> u32
     }
     let row = head.row;
     quantities::quantity_refusal(kind, row, p)
-}
-
-// The first refusal that holds, 0 for none.
-pub fn refusal(case: &[u8]) -> u32
-    ensures { λ r. ⌜ r ≡ refusalOf (now (case .entry)) ⌝ }
-{
-    if case.len() != 64 {
-        return 1;
-    }
-    let p = quantities::patterns_at(case);
-    refusal_of(case[0], fields::head_at(case), &p)
 }
 
 // What the case says, or the first refusal that holds.

@@ -1,13 +1,12 @@
 // The six quantities of a case, as patterns, and refusals 8 to 11.
 ghost use mathlib.Core.Path.{_≡_};
-ghost use mathlib.Core.Bool.{false, not, _&&_};
+ghost use mathlib.Core.Bool.{false};
 ghost use Prim.Native.Nat.{_<_};
-ghost use lib.Dec.{leb, eqb};
 ghost use lib.Ieee.{binary64, ofBits};
 ghost use lib.ListN.{length};
 ghost use Rattle.scenario.specs.Refusal.{firstOf};
-ghost use Rattle.scenario.specs.Case.{anyOfSix, notNumber, anyNotNumber, sumWithin, sumOver, quantityRefusals};
-ghost use Rattle.scenario.specs.Patterns.{patternsOf, at};
+ghost use Rattle.scenario.specs.Case.{anyNotNumber, sumWithin, sumOver, quantityRefusals};
+ghost use Rattle.scenario.specs.Patterns.{patternsOf, at, addFaults, faultsOf};
 use crate::kinds::limits_of;
 use binary64::bytes::u64_at;
 use binary64::pattern::is_unsigned_finite;
@@ -27,61 +26,41 @@ pub fn patterns_at(case: &[u8]) -> [u64; 6]
     ]
 }
 
-fn not_number_at(p: &[u64; 6], i: usize) -> bool
-    requires { ⌜ i < 6 ⌝ }
-    ensures { λ r. ⌜ r ≡ notNumber (at (now (p .entry)) i) ⌝ }
-{
-    !is_unsigned_finite(p[i])
+// Whether refusals 8, 9 and 10 hold: no number from 0 on, unlisted and not zero bytes, over its limit.
+pub struct Faults {
+    pub invalid: bool,
+    pub stray: bool,
+    pub over: bool,
 }
 
-// Refusal 8 looks at all six.
-fn any_not_number(p: &[u64; 6]) -> bool
-    ensures { λ r. ⌜ r ≡ anyNotNumber (at (now (p .entry))) ⌝ }
+// What was found, with a quantity by its limit, 0 where it is unlisted, and its pattern. Patterns are in the order of their values.
+fn add_faults(found: Faults, limit: u64, pattern: u64) -> Faults
+    ensures { λ r. ⌜ r ≡ addFaults found limit pattern ⌝ }
 {
-    not_number_at(p, 0)
-        | not_number_at(p, 1)
-        | not_number_at(p, 2)
-        | not_number_at(p, 3)
-        | not_number_at(p, 4)
-        | not_number_at(p, 5)
+    let unlisted = limit == 0;
+    Faults {
+        invalid: found.invalid | !is_unsigned_finite(pattern),
+        stray: found.stray | (unlisted & (pattern != 0)),
+        over: found.over | (!unlisted & !(pattern <= limit)),
+    }
 }
 
-// An unlisted quantity has limit 0 and eight zero bytes.
-fn not_zero_at(p: &[u64; 6], limits: &[u64; 6], i: usize) -> bool
-    requires { ⌜ i < 6 ⌝ }
-    ensures { λ r. ⌜ r ≡ (eqb (at (now (limits .entry)) i) 0 && not (eqb (at (now (p .entry)) i) 0)) ⌝ }
+// Of any of the six.
+fn faults_of(kind: u8, row: u8, p: &[u64; 6]) -> Faults
+    ensures { λ r. ⌜ r ≡ faultsOf kind row (at (now (p .entry))) ⌝ }
 {
-    (limits[i] == 0) & (p[i] != 0)
-}
-
-fn any_not_zero(p: &[u64; 6], limits: &[u64; 6]) -> bool
-    ensures { λ r. ⌜ r ≡ anyOfSix (λ i. eqb (at (now (limits .entry)) i) 0 && not (eqb (at (now (p .entry)) i) 0)) ⌝ }
-{
-    not_zero_at(p, limits, 0)
-        | not_zero_at(p, limits, 1)
-        | not_zero_at(p, limits, 2)
-        | not_zero_at(p, limits, 3)
-        | not_zero_at(p, limits, 4)
-        | not_zero_at(p, limits, 5)
-}
-
-// A listed quantity may reach its limit. Patterns are in the order of their values.
-fn over_at(p: &[u64; 6], limits: &[u64; 6], i: usize) -> bool
-    requires { ⌜ i < 6 ⌝ }
-    ensures { λ r. ⌜ r ≡ (not (eqb (at (now (limits .entry)) i) 0) && not (leb (at (now (p .entry)) i) (at (now (limits .entry)) i))) ⌝ }
-{
-    (limits[i] != 0) & !(p[i] <= limits[i])
-}
-
-fn any_over(p: &[u64; 6], limits: &[u64; 6]) -> bool
-    ensures { λ r. ⌜ r ≡ anyOfSix (λ i. not (eqb (at (now (limits .entry)) i) 0) && not (leb (at (now (p .entry)) i) (at (now (limits .entry)) i))) ⌝ }
-{
-    over_at(p, limits, 0)
-        | over_at(p, limits, 1)
-        | over_at(p, limits, 2)
-        | over_at(p, limits, 3)
-        | over_at(p, limits, 4)
-        | over_at(p, limits, 5)
+    let limits = limits_of(kind, row);
+    let none = Faults {
+        invalid: false,
+        stray: false,
+        over: false,
+    };
+    let a = add_faults(none, limits[0], p[0]);
+    let b = add_faults(a, limits[1], p[1]);
+    let c = add_faults(b, limits[2], p[2]);
+    let d = add_faults(c, limits[3], p[3]);
+    let e = add_faults(d, limits[4], p[4]);
+    add_faults(e, limits[5], p[5])
 }
 
 // A quantity of six that are all numbers.
@@ -113,14 +92,14 @@ fn sum_over(kind: u8, p: &[u64; 6]) -> bool
 pub fn quantity_refusal(kind: u8, row: u8, p: &[u64; 6]) -> u32
     ensures { λ r. ⌜ r ≡ firstOf (quantityRefusals kind row (at (now (p .entry)))) ⌝ }
 {
-    if any_not_number(p) {
+    let faults = faults_of(kind, row, p);
+    if faults.invalid {
         return 8;
     }
-    let limits = limits_of(kind, row);
-    if any_not_zero(p, &limits) {
+    if faults.stray {
         return 9;
     }
-    if any_over(p, &limits) {
+    if faults.over {
         return 10;
     }
     if sum_over(kind, p) {
