@@ -88,23 +88,32 @@ fn by_route(route: u8, e: Emissions) -> [u64; 4]
     }
 }
 
+// Writes the four figures of a case and returns 0, or zeros and the first refusal that holds.
+pub fn work_out_into(case: &[u8], figures: &mut [u64; 4]) -> u32
+    ensures { λ r. ⌜ (r ≡ refusalOf (now (case .entry))) × (now (figures .exit) ≡ figuresOf (now (case .entry))) ⌝ }
+{
+    match scenario::decode(&case[..]) {
+        Decoded::Refused(number) => {
+            *figures = [0, 0, 0, 0];
+            number
+        }
+        Decoded::Accepted { head, case } => {
+            *figures = by_route(head.route, emissions_of(case, head));
+            0
+        }
+    }
+}
+
 pub struct Worked {
     pub refusal: u32,
     pub figures: [u64; 4],
 }
 
-// The four figures of a case, or the first refusal that holds, with zeros beside it.
+// The same, by value.
 pub fn work_out(case: &[u8]) -> Worked
     ensures { λ r. ⌜ (r .refusal ≡ refusalOf (now (case .entry))) × (r .figures ≡ figuresOf (now (case .entry))) ⌝ }
 {
-    match scenario::decode(&case[..]) {
-        Decoded::Refused(number) => Worked {
-            refusal: number,
-            figures: [0, 0, 0, 0],
-        },
-        Decoded::Accepted { head, case } => Worked {
-            refusal: 0,
-            figures: by_route(head.route, emissions_of(case, head)),
-        },
-    }
+    let mut figures = [0, 0, 0, 0];
+    let refusal = work_out_into(case, &mut figures);
+    Worked { refusal, figures }
 }
