@@ -8,7 +8,7 @@ use lib.Dec.{eqb}
 use lib.ListN.{length, getD, length-map}
 use Rattle.scenario.specs.Case.{routeOf, refusalOf}
 use Rattle.scenario.proofs.Passed.{passed}
-use Rattle.emission.specs.Ratio.{Ratio, roundedUp}
+use Rattle.product.specs.Ratio.{Ratio, roundedUp}
 use Rattle.emission.specs.Figures.{exactValues, figuresOf}
 use Rattle.emission.proofs.Accepted.{figures-exact}
 use Rattle.archive.specs.Archive.{lineFor}

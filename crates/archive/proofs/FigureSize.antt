@@ -19,13 +19,14 @@ use Rattle.scenario.specs.declared.Case.{Case}
 use Rattle.scenario.specs.declared.Case.the-variants.{Measured, Unknown, Application, Sanitary, Formulation, Hygiene, Toilets}
 use Rattle.scenario.specs.declared.Head.{Head}
 use Rattle.scenario.proofs.Bools.{both}
-use Rattle.emission.specs.Ratio.{Ratio, _over_, _·_, exactly, roundedUp}
+use Rattle.product.specs.Ratio.{Ratio, _over_, _·_, exactly, roundedUp}
 use Rattle.emission.specs.Rows.{cities, noCity, cityAt, hygienes, noHygiene, hygieneAt}
-use Rattle.emission.specs.Equations.{Factor, number, quantity, less, chain, total, loss, measured, measuredAt, unknown, unknownAt, application, applicationAt, consumption, consumptionAt, toWater, toAir, toSoil}
+use Rattle.product.specs.Chain.{Factor, number, quantity, less, chain}
+use Rattle.emission.specs.Equations.{total, loss, measured, measuredAt, unknown, unknownAt, application, applicationAt, consumption, consumptionAt, toWater, toAir, toSoil}
 use Rattle.emission.specs.Figures.{microgram, micrograms, exactValues, figuresOf}
 use Rattle.emission.specs.Ranges.{Within, InRange}
 use Rattle.emission.specs.Constants.{numbers}
-use Rattle.emission.proofs.Ratios.{AtMost, at-most-times}
+use Rattle.product.proofs.Ratios.{AtMost, at-most-times}
 use Rattle.emission.proofs.Chains.{others, gather, chain-at-most, remainder-at-most, term, next}
 use Rattle.emission.proofs.Accepted.{in-range, figures-exact}
 use Rattle.emission.proofs.Positive.{lower-not-zero}

@@ -6,7 +6,7 @@ use Prim.Native.Nat.{ℕ, _<_}
 use denote.Ref.{now}
 use lib.ListN.{length, getD, take}
 use Rattle.scenario.specs.Case.{refusalOf}
-use Rattle.emission.specs.Ratio.{_over_}
+use Rattle.product.specs.Ratio.{_over_}
 use Rattle.emission.specs.Figures.{exactValues, WithinBounds, margin}
 use Rattle.emission.proofs.work_out.Kinds as work-out-kinds
 use Rattle.emission.proofs.work_out.Reads as work-out-reads

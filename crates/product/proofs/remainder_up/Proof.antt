@@ -4,11 +4,11 @@ use Prim.Native.Nat.{ℕ, min}
 use native.Mathlib.Omega.{arith}
 use lib.Pow.{pow-pos}
 use borrow.Author.Needs.{needs}
-use Rattle.emission.specs.Ratio.{oneLess, exactly}
-use Rattle.emission.specs.Equations.{chain}
-use Rattle.emission.proofs.Limbs.{up-to-largest, complement-fits, start-remainder, start-times}
-use Rattle.emission.proofs.product.remainder_up.Statement.{statement}
-use Rattle.emission.proofs.product.remainder_up.Tie as tie
+use Rattle.product.specs.Ratio.{oneLess, exactly}
+use Rattle.product.specs.Chain.{chain}
+use Rattle.product.proofs.Limbs.{up-to-largest, complement-fits, start-remainder, start-times}
+use Rattle.product.proofs.remainder_up.Statement.{statement}
+use Rattle.product.proofs.remainder_up.Tie as tie
 
 complement-requires : tie.Need-complement-requires
 complement-requires c κs =

@@ -1,8 +1,8 @@
 -- By 1 nothing changes; otherwise by `grow`.
 use native.Mathlib.Nat.{mul-one}
 use borrow.Author.Needs.{needs}
-use Rattle.emission.proofs.product.times.Statement.{statement}
-use Rattle.emission.proofs.product.times.Tie as tie
+use Rattle.product.proofs.times.Statement.{statement}
+use Rattle.product.proofs.times.Tie as tie
 
 pub times-spec : {M : Type 1} → statement M
 times-spec =

@@ -12,7 +12,7 @@ use Prim.Native.Nat.{ℕ, _+_, _*_, _≤_, _<_}
 use native.Mathlib.Nat.{mul-one, mul-assoc, mul-comm, mul-left-comm, mul-pos, eq-of-mul-eq-mul-right, mul-le-mul, mul-le-mul-right}
 use native.Mathlib.Omega.{arith}
 use Rattle.natural.proofs.Ceiling.{ceiling-same, ceiling-at-most}
-use Rattle.emission.specs.Ratio.{Ratio, _over_, _·_, _⊕_, oneLess, Same, roundedUp}
+use Rattle.product.specs.Ratio.{Ratio, _over_, _·_, _⊕_, oneLess, Same, roundedUp}
 
 -- ── equal number by number
 

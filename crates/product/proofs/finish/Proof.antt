@@ -4,9 +4,9 @@ use Prim.Native.Nat.{ℕ, min}
 use native.Mathlib.Omega.{arith}
 use lib.Seq.{length-take-le}
 use borrow.Author.Needs.{needs}
-use Rattle.emission.proofs.Limbs.{rounded}
-use Rattle.emission.proofs.product.finish.Statement.{statement}
-use Rattle.emission.proofs.product.finish.Tie as tie
+use Rattle.product.proofs.Limbs.{rounded}
+use Rattle.product.proofs.finish.Statement.{statement}
+use Rattle.product.proofs.finish.Tie as tie
 
 returns : tie.Need-returns
 returns c =

@@ -1,5 +1,5 @@
--- An exact value: two whole numbers, one over the other, the lower not 0 (paper 01, 'A case, 64 bytes').
--- That no lower number of an emission is 0 is a theorem (`lower-not-zero`).
+-- Exact values as fractions (paper 01, 'A case, 64 bytes'): upper over lower, where lower is not 0.
+-- That it is not, of the values that the figures come from, is a theorem of crate emission (`lower-not-zero`).
 use mathlib.Core.Path.{_≡_}
 use Prim.Native.Nat.{ℕ, _+_, _-_, _*_}
 use lib.Ieee.{Float, binary64, toBits}
@@ -26,11 +26,11 @@ p ⊕ q = (p .upper * q .lower + q .upper * p .lower) over (p .lower * q .lower)
 abbrev pub oneLess : Ratio → Ratio
 oneLess p = (p .lower - p .upper) over (p .lower)
 
--- a quantity means its exact binary value
+-- the value that a binary64 stands for: 2 ^ 1074 is below
 abbrev pub exactly : Float → Ratio
 exactly x = whole (toBits binary64 x) over one
 
--- compared by multiplying across
+-- equal in value: each upper number times the other lower one
 abbrev pub Same : Ratio → Ratio → Type 0
 Same p q = p .upper * q .lower ≡ q .upper * p .lower
 

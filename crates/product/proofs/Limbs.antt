@@ -1,19 +1,18 @@
 -- Laws of products in limbs.
 --   shift-at-most, dyadic                 a quantity as a significand over a power of two
---   small, up-to-largest, each-at, within-each   what is asked of each quantity of a list
+--   up-to-largest, each-at                what is asked of each quantity of a list
 --   Left, product-again, product-done     the loop of `multiply`: what is left of the chain
 --   rounded                               the product divided and rounded up
---   started, no-limbs, start-constant, figure-shared, start-times   what a product starts with, and the constant in it
+--   started, no-limbs, start-constant, start-shared, start-times   what a product starts with, and the constant in it
 --   complement-fits, start-remainder, start-sum   the two wide starts
--- Chains as the paper prints them are in Chains.
 use mathlib.Core.Path.{_≡_, refl, sym, ap, _∙_}
-use mathlib.Core.Bool.{Bool, true, false, _&&_, cond}
+use mathlib.Core.Bool.{Bool, true, false, cond}
 use mathlib.Core.List.{List, [], _∷_, _++_, map}
 use Prim.Native.Nat.{ℕ, zero, suc, _+_, _-_, _*_, _^_, _≤_, _<_, min}
 use native.Mathlib.Nat.{mul-pos, le-of-suc-le-suc, le-antisymm, le-trans, mul-one, mul-le-mul-right, le-of-mul-le-mul-right}
 use native.Mathlib.Omega.{arith}
 use native.Mathlib.Numerals.{add-one}
-use lib.Dec.{leb, eqb}
+use lib.Dec.{eqb}
 use lib.ListN.{length, drop, getD}
 use lib.Pow.{pow-add, pow-pos}
 use lib.Seq.{drop-cons, drop-length}
@@ -22,16 +21,13 @@ use borrow.Author.Tests.{leb-true, le-leb}
 use Rattle.binary64.specs.Pattern.{exponentOf}
 use Rattle.binary64.specs.Quantity.{whole, wholeAt, one, shiftOf}
 use Rattle.binary64.proofs.Order.{limit-as-pattern}
-use Rattle.scenario.proofs.Bools.{both}
 use Rattle.natural.specs.Ceiling.{ceiling}
 use Rattle.natural.specs.Value.{value}
-use Rattle.emission.specs.Ratio.{Ratio, _over_, _·_, _⊕_, oneLess, exactly, Same, roundedUp}
-use Rattle.emission.specs.Equations.{Factor, quantity, chain}
-use Rattle.emission.specs.Figures.{microgram, micrograms}
-use Rattle.emission.specs.Ranges.{UpTo, Within, Each, largest}
-use Rattle.emission.specs.Constants.{numbers}
-use Rattle.emission.proofs.Ratios.{times-assoc, times-comm, times-one, same-of, same-trans, same-times, same-scaled, same-plus, rounded-same, AtMost}
-use Rattle.emission.proofs.Chains.{others, chain-append, quantities-positive, largest64, figure}
+use Rattle.product.specs.Ratio.{Ratio, _over_, _·_, _⊕_, oneLess, exactly, Same, roundedUp}
+use Rattle.product.specs.Chain.{quantity, chain}
+use Rattle.product.specs.Ranges.{UpTo, Each, largest}
+use Rattle.product.proofs.Ratios.{times-assoc, times-comm, times-one, same-of, same-trans, same-times, same-scaled, same-plus, rounded-same}
+use Rattle.product.proofs.Chains.{chain-append, quantities-positive}
 
 -- ── a quantity as a significand over a power of two
 
@@ -75,11 +71,6 @@ module _ (x : Float) (b s : ℕ) (u : UpTo largest x) (eb : b ≡ toBits binary6
 
 -- ── the quantities of a list
 
--- all limits are at most the largest
-unfoldable pub small : List ℕ → Bool
-small [] = true
-small (m ∷ ms) = leb m largest && small ms
-
 pub up-to-largest : (x : Float) (m : ℕ) → UpTo m x → m ≤ largest → UpTo largest x
 up-to-largest x m u h = record { number = u .number; most = le-trans (u .most) (mul-le-mul-right {m = m} {n = largest} one h) }
 
@@ -88,15 +79,6 @@ unfolding Each
 each-at [] i z e h = absurd (omega arith)
 each-at (x ∷ l) zero z e h = e .0
 each-at (x ∷ l) (suc i) z e h = each-at l i z (e .1) (le-of-suc-le-suc h)
-
-pub within-each : (xs : List Float) (ms : List ℕ) → small ms ≡ true → Within xs ms → Each xs
-unfolding Within Each small
-within-each [] [] h w = tt
-within-each [] (m ∷ ms) h w = tt
-within-each (x ∷ xs) [] h w = absurd w
-within-each (x ∷ xs) (m ∷ ms) h w =
-    let s = both (leb m largest) (small ms) h in
-    (up-to-largest x m (w .0) (leb-true m largest (s .0)), within-each xs ms (s .1) (w .1))
 
 -- ── the loop of `multiply`
 
@@ -164,18 +146,16 @@ start-constant l v z k d h ez ev =
     started l v 0 k d (1 over 1) h (omega arith) (omega arith)
     ∙ ap (λ (c : Ratio). roundedUp ((k over d) · c)) (times-comm (1 over 1) (chain (map quantity l)) ∙ times-one (chain (map quantity l)))
 
--- the constant k, which is u, then the quantities xs that several compartments share, then x
-pub figure-shared : (xs : List Float) (x : Float) (l : List Factor) (v depth u z k d m r : ℕ) → r ≡ min largest64 (roundedUp (v over 2 ^ depth · chain (quantity x ∷ []) · 1 over d))
-    → Same (v over 2 ^ depth) (u over 2 ^ 0 · chain (map quantity xs)) → u ≡ z * 1 + k → z ≡ 0 → 0 < d → chain (map quantity xs ++ quantity x ∷ []) ≡ chain (others l)
-    → 0 < numbers l .lower → Same (k over d) (microgram · numbers l) → AtMost (chain (map quantity xs ++ quantity x ∷ [])) m → k * m ≤ largest64 * d → r ≡ roundedUp (micrograms (l ∷ []))
-figure-shared xs x l v depth u z k d m r er ev eu ez h o g e a f =
-    let q = chain (map quantity xs) in
+-- the constant k, which is u, then the quantities xs that are shared, then x
+pub start-shared : (xs : List Float) (v depth u z k d : ℕ) → 0 < d → z ≡ 0 → u ≡ z * 1 + k → Same (v over 2 ^ depth) (u over 2 ^ 0 · chain (map quantity xs))
+    → (x : Float) (r : ℕ) → r ≡ min 18446744073709551615 (roundedUp (v over 2 ^ depth · chain (quantity x ∷ []) · 1 over d))
+    → r ≡ min 18446744073709551615 (roundedUp (k over d · chain (map quantity xs ++ quantity x ∷ [])))
+start-shared xs v depth u z k d h ez eu ev x r e =
     let c : u ≡ k = omega arith in
-    figure l (map quantity xs ++ quantity x ∷ []) k d m r
-    (er ∙ ap (λ (n : ℕ). min largest64 n)
+    let q = chain (map quantity xs) in
+    e ∙ ap (λ (n : ℕ). min 18446744073709551615 n)
     (started (x ∷ []) v depth k d q h (quantities-positive xs) (same-of refl (λ j. sym c j over 1 · q) ev)
-    ∙ ap (λ (t : Ratio). roundedUp (k over d · t)) (chain-append (map quantity xs) (quantity x ∷ []))))
-    o h g e a f
+    ∙ ap (λ (t : Ratio). roundedUp (k over d · t)) (chain-append (map quantity xs) (quantity x ∷ [])))
 
 -- the constant times a number that has the value q
 constant-times : (n v k D a b : ℕ) → v ≡ n * k → n * b ≡ a * D → v * (1 * b) ≡ k * a * D

@@ -5,10 +5,10 @@ use native.Mathlib.Nat.{mul-pos}
 use native.Mathlib.Omega.{arith}
 use lib.Pow.{pow-pos}
 use borrow.Author.Needs.{needs}
-use Rattle.emission.specs.Ratio.{_⊕_, exactly}
-use Rattle.emission.proofs.Limbs.{start-sum, start-times}
-use Rattle.emission.proofs.product.sum_up.Statement.{statement}
-use Rattle.emission.proofs.product.sum_up.Tie as tie
+use Rattle.product.specs.Ratio.{_⊕_, exactly}
+use Rattle.product.proofs.Limbs.{start-sum, start-times}
+use Rattle.product.proofs.sum_up.Statement.{statement}
+use Rattle.product.proofs.sum_up.Tie as tie
 
 finish-requires : tie.Need-finish-requires
 finish-requires c κs =

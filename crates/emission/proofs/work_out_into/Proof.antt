@@ -3,8 +3,8 @@ use mathlib.Core.Path.{sym, _∙_}
 use denote.Ref.{now}
 use borrow.Author.Needs.{needs}
 use Rattle.emission.proofs.Accepted.{accepted-is, refused-is, in-range, figures-refused, figures-accepted}
-use Rattle.emission.proofs.work_out.Statement.{statement}
-use Rattle.emission.proofs.work_out.Tie as tie
+use Rattle.emission.proofs.work_out_into.Statement.{statement}
+use Rattle.emission.proofs.work_out_into.Tie as tie
 
 emissions-of-requires : tie.Need-emissions-of-requires
 emissions-of-requires c κs =
@@ -16,7 +16,7 @@ emissions-of-requires c κs =
 
 returns : tie.Need-returns
 returns c =
-    let n = c .before in
+    let n = c .before .before in
     let d = n .before .before in
     let b = now (d .before .before .args .case) in
     let r = refused-is b _ (sym (d .decode .ensures) ∙ n .number .given .1) in
@@ -31,8 +31,8 @@ returns-2 c =
     let a = accepted-is b _ _ (sym (d .decode .ensures) ∙ h .head .given .1) in
     (sym (a .0), c .by-route .ensures ∙ figures-accepted b _ _ _ _ _ (a .0) (a .1) (a .2) (e .emissions-of .ensures .0) (e .emissions-of .ensures .1) (e .emissions-of .ensures .2))
 
-pub work-out-spec : {M : Type 1} → statement M
-work-out-spec =
+pub work-out-into-spec : {M : Type 1} → statement M
+work-out-into-spec =
     tie.close
     (tie.spec
     (λ c κs. search needs)

@@ -1,8 +1,8 @@
 -- By the pattern's significand and shift, which is at most 1074 for a quantity within the limits.
 use borrow.Author.Needs.{needs}
-use Rattle.emission.proofs.Limbs.{shift-at-most, dyadic}
-use Rattle.emission.proofs.product.dyadic_of.Statement.{statement}
-use Rattle.emission.proofs.product.dyadic_of.Tie as tie
+use Rattle.product.proofs.Limbs.{shift-at-most, dyadic}
+use Rattle.product.proofs.dyadic_of.Statement.{statement}
+use Rattle.product.proofs.dyadic_of.Tie as tie
 
 sub-t4 : tie.Need-sub-t4
 sub-t4 c =

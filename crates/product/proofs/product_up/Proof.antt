@@ -2,9 +2,9 @@
 use mathlib.Core.Path.{ap, _∙_}
 use Prim.Native.Nat.{ℕ, min}
 use borrow.Author.Needs.{needs}
-use Rattle.emission.proofs.Limbs.{no-limbs, start-constant}
-use Rattle.emission.proofs.product.product_up.Statement.{statement}
-use Rattle.emission.proofs.product.product_up.Tie as tie
+use Rattle.product.proofs.Limbs.{no-limbs, start-constant}
+use Rattle.product.proofs.product_up.Statement.{statement}
+use Rattle.product.proofs.product_up.Tie as tie
 
 returns : tie.Need-returns
 returns c =

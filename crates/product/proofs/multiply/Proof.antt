@@ -4,9 +4,9 @@ use Prim.Native.Nat.{_+_, _-_, _*_, _≤_}
 use native.Mathlib.Omega.{arith}
 use lib.ListN.{length, take}
 use Rattle.natural.specs.Value.{value}
-use Rattle.emission.proofs.Limbs.{Left, each-at, product-again, product-done}
-use Rattle.emission.proofs.product.multiply.Statement.{statement}
-use Rattle.emission.proofs.product.multiply.Tie as tie
+use Rattle.product.proofs.Limbs.{Left, each-at, product-again, product-done}
+use Rattle.product.proofs.multiply.Statement.{statement}
+use Rattle.product.proofs.multiply.Tie as tie
 
 abbrev Inv-loop : tie.InvT-loop
 Inv-loop limbs₀ n depth quantities m₀ p₀ i₀ limbs m p i =

@@ -1,23 +1,23 @@
 // Chains of factors in limbs: exact products of quantities, rounded up once at the end.
 ghost use mathlib.Core.Path.{_≡_};
-ghost use mathlib.Core.List.{[], _∷_, map};
+ghost use mathlib.Core.List.{[], _∷_, _++_, map};
 ghost use Prim.Native.Nat.{_+_, _*_, _^_, _≤_, _<_, min, max};
 ghost use lib.ListN.{length, take};
 ghost use Rattle.natural.specs.Value.{value};
-ghost use Rattle.emission.specs.Ratio.{_over_, _·_, _⊕_, exactly, Same, roundedUp};
-ghost use Rattle.emission.specs.Equations.{quantity, less, chain};
-ghost use Rattle.emission.specs.Ranges.{UpTo, Each, largest};
+ghost use Rattle.product.specs.Ratio.{_over_, _·_, _⊕_, exactly, Same, roundedUp};
+ghost use Rattle.product.specs.Chain.{quantity, less, chain};
+ghost use Rattle.product.specs.Ranges.{UpTo, Each, largest};
 use binary64::pattern::parts_of;
 use binary64::pattern::pattern_of;
 use chain::starts::Term;
 
 // A quantity as significand / 2^depth.
-pub struct Dyadic {
-    pub significand: u64,
-    pub depth: usize,
+struct Dyadic {
+    significand: u64,
+    depth: usize,
 }
 
-pub fn dyadic_of(x: f64) -> Dyadic
+fn dyadic_of(x: f64) -> Dyadic
     requires { ⌜ UpTo largest x ⌝ }
     ensures { λ r. ⌜ Same (exactly x) (r .significand over 2 ^ r .depth) × (r .depth ≤ 1074) ⌝ }
 {
@@ -40,13 +40,13 @@ fn times(limbs: &mut [u32], n: usize, f: u64) -> usize
 }
 
 // The number in the first `count` limbs, over 2^depth.
-pub struct Product {
-    pub count: usize,
-    pub depth: usize,
+struct Product {
+    count: usize,
+    depth: usize,
 }
 
 // Multiplies the number in the first n limbs, over 2^depth, by the quantities.
-pub fn multiply(limbs: &mut [u32], n: usize, depth: usize, quantities: &[f64]) -> Product
+fn multiply(limbs: &mut [u32], n: usize, depth: usize, quantities: &[f64]) -> Product
     requires { ⌜ (n + 2 * length (now quantities) ≤ length (now limbs)) × (length (now quantities) ≤ 5) × (depth ≤ 2148) × Each (now quantities) ⌝ }
     ensures { λ r. ⌜ Same (value (take (r .count) (now (limbs .exit))) over 2 ^ r .depth) ((value (take n (now (limbs .entry))) over 2 ^ depth) · chain (map quantity (now (quantities .entry)))) × (r .count ≤ n + 2 * length (now (quantities .entry))) × (r .depth ≤ depth + 1074 * length (now (quantities .entry))) ⌝ }
 {
@@ -125,11 +125,26 @@ pub fn sum_up(a: f64, b: f64, quantities: &[f64], k: u64, d: u32) -> u64
 }
 
 // The number in the first n limbs, over 2^depth, times a quantity, divided by d and rounded up. The limbs are not changed.
-pub fn compartment_up(limbs: [u32; 8], n: usize, depth: usize, x: f64, d: u32) -> u64
+fn branch_up(limbs: [u32; 8], n: usize, depth: usize, x: f64, d: u32) -> u64
     requires { ⌜ (n ≤ 6) × (depth ≤ 2148) × (0 < d) × UpTo largest x ⌝ }
     ensures { λ r. ⌜ r ≡ min 18446744073709551615 (roundedUp ((value (take n limbs) over 2 ^ depth) · chain (quantity x ∷ []) · 1 over d)) ⌝ }
 {
     let mut l = limbs;
     let quantities = [x];
     finish(&mut l, n, depth, &quantities, d)
+}
+
+// k / d times the quantities times x, times y and times z, each rounded up. The quantities are multiplied once.
+pub fn three_up(quantities: &[f64], x: f64, y: f64, z: f64, k: u64, d: u32) -> [u64; 3]
+    requires { ⌜ (length (now quantities) ≤ 2) × (0 < d) × Each (now quantities) × Each (x ∷ y ∷ z ∷ []) ⌝ }
+    ensures { λ r. ⌜ r ≡ map (λ t. min 18446744073709551615 (roundedUp ((k over d) · chain (map quantity (now (quantities .entry)) ++ quantity t ∷ [])))) (x ∷ y ∷ z ∷ []) ⌝ }
+{
+    let mut limbs = [0u32; 8];
+    let n = chain::products::grow(&mut limbs, 0, 1, k);
+    let p = multiply(&mut limbs, n, 0, &quantities[..]);
+    [
+        branch_up(limbs, p.count, p.depth, x, d),
+        branch_up(limbs, p.count, p.depth, y, d),
+        branch_up(limbs, p.count, p.depth, z, d),
+    ]
 }
