@@ -12,17 +12,19 @@ use denote.Ref.{now}
 use Rattle.binary64.specs.Bytes.{splice}
 use Rattle.scenario.specs.Refusal.{Condition, firstOf, IsFirst}
 use Rattle.scenario.proofs.Refusals.{first-of-is-first, first-is-first-of, none-holds}
-use Rattle.archive.specs.Layout.{trailer, trailerSize, usedLength, recordSize, edition}
-use Rattle.archive.specs.Lines.{accepted, bytesAt, worstOf, IsWorst}
+use Rattle.records.specs.Layout.{trailer, trailerSize, usedLength, recordSize, edition, bytesAt}
+use Rattle.archive.specs.Conditions.{accepted}
+use Rattle.records.specs.Lines.{worstOf, IsWorst}
 use Rattle.archive.specs.Answers.{emptied, filed, named, ofEmptied, ofFiling, ofHighest, refusalIn}
-use Rattle.archive.specs.Archive.{countAt, linesIn, emptyRefusals, emptyRefusal, emptying, emptyBytes, fileRefusals, fileRefusal, filing, lineFor, written, fileBytes, showRefusals, showRefusal, showPart, worstRefusals, worstRefusal, naming}
+use Rattle.records.specs.Buffer.{countAt, linesIn, written}
+use Rattle.archive.specs.Archive.{emptyRefusals, emptyRefusal, emptying, emptyBytes, fileRefusals, fileRefusal, filing, lineFor, fileBytes, showRefusals, showRefusal, showPart, worstRefusals, worstRefusal, naming}
 use Rattle.archive.specs.Called.{Called, InOrder}
 use Rattle.archive.specs.declared.Emptied.the-variants.{Used, Refused}
 use Rattle.archive.specs.declared.Filing.the-variants.{Filed, Refused as NotFiled}
 use Rattle.archive.specs.declared.Highest.the-variants.{Number, Refused as NotNamed}
-use Rattle.archive.proofs.RecordLaws.{length-decode}
+use Rattle.records.proofs.RecordLaws.{length-decode}
 use Rattle.archive.proofs.Refusals.{accepted-refused}
-use Rattle.archive.proofs.WorstLine.{worst-is-highest}
+use Rattle.records.proofs.WorstLine.{worst-is-highest}
 use Rattle.archive.proofs.empty.Kinds as empty-kinds
 use Rattle.archive.proofs.empty.Reads as empty-reads
 use Rattle.archive.proofs.file.Kinds as file-kinds

@@ -14,8 +14,10 @@ use Rattle.scenario.specs.Refusal.{Condition, _when_, firstOf}
 use Rattle.scenario.specs.Case.{refusals, refusalOf}
 use Rattle.scenario.proofs.Bools.{neither}
 use Rattle.scenario.proofs.Refusals.{first-of-append, first-of-some}
-use Rattle.archive.specs.Lines.{accepted, held, full, notCompartment}
-use Rattle.archive.specs.Archive.{countAt, broken, linesIn, fileRefusals, fileRefusal}
+use Rattle.archive.specs.Conditions.{accepted, full, notCompartment}
+use Rattle.records.specs.Lines.{held}
+use Rattle.records.specs.Buffer.{countAt, broken, linesIn}
+use Rattle.archive.specs.Archive.{fileRefusals, fileRefusal}
 
 pub compartment-within : (m : ℕ) → notCompartment m ≡ false → (1 ≤ m) × (m ≤ 4)
 compartment-within m e = let p = neither (ltb m 1) (ltb 4 m) e in (ltb-false m 1 (p .0), ltb-false 4 m (p .1))

@@ -13,7 +13,7 @@ use Rattle.emission.proofs.work_out.Kinds as work-out-kinds
 use Rattle.emission.proofs.work_out.Reads as work-out-reads
 use Rattle.emission.proofs.work_out.Met as work-out-met
 use Rattle.emission.proofs.work_out.Statement as work-out-statement
-use Rattle.archive.specs.Layout.{Line}
+use Rattle.records.specs.Layout.{Line}
 use Rattle.archive.specs.Answers.{Answer, emptied, shown, ofEmptied, ofFiling, ofHighest, handed}
 use Rattle.history.specs.Ledger.{Call, empty, file, show, worst, after, answers, lines}
 use Rattle.archive.specs.Archive.{emptying, emptyBytes, filing, fileBytes, showRefusal, showPart, naming}

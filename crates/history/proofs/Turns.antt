@@ -15,14 +15,16 @@ use Rattle.scenario.proofs.Bools.{neither}
 use Rattle.scenario.proofs.Refusals.{none-holds}
 use Rattle.emission.specs.Figures.{figuresOf}
 use Rattle.emission.proofs.Demand2.{Call as WorkOutCall, figure-bounds}
-use Rattle.archive.specs.Layout.{Line, noLine, recordOf, trailer, trailerSize, usedLength, mostRecords, recordSize, edition}
-use Rattle.archive.specs.Lines.{accepted, bytesAt, held, full}
+use Rattle.records.specs.Layout.{Line, noLine, recordOf, trailer, trailerSize, usedLength, mostRecords, recordSize, edition, bytesAt}
+use Rattle.archive.specs.Conditions.{accepted, full}
+use Rattle.records.specs.Lines.{held}
 use Rattle.archive.specs.Answers.{Answer, emptied, shown, ofEmptied, ofFiling, ofHighest, handed}
 use Rattle.history.specs.Ledger.{Call, empty, file, show, worst, judgedEmpty, judgedFile, judgedShow, judgedWorst, answer, after}
-use Rattle.archive.specs.Archive.{emptyRefusals, emptyRefusal, emptying, emptyBytes, fileRefusal, filing, lineFor, written, fileBytes, showRefusals, showRefusal, showPart, worstRefusals, naming}
+use Rattle.archive.specs.Archive.{emptyRefusals, emptyRefusal, emptying, emptyBytes, fileRefusal, filing, lineFor, fileBytes, showRefusals, showRefusal, showPart, worstRefusals, naming}
+use Rattle.records.specs.Buffer.{written}
 use Rattle.archive.proofs.Calls.{of-emptying, of-filing, of-naming}
 use Rattle.archive.proofs.Cases.{storable-line}
-use Rattle.archive.proofs.Holding.{Holds, count-is, sound-is, lines-are, record-is, length-emptied, emptied-holds, length-written, written-holds}
+use Rattle.records.proofs.Holding.{Holds, count-is, sound-is, lines-are, record-is, length-emptied, emptied-holds, length-written, written-holds}
 use Rattle.archive.proofs.Refusals.{orElse, behind-case, both-zero, file-refusal-is}
 use Rattle.history.specs.History.{Worked, Emptying, Filing, Showing, Naming, Turn, HeldLine, AllHeld}
 

@@ -10,7 +10,7 @@ use Rattle.emission.specs.Ratio.{_over_}
 use Rattle.emission.specs.Figures.{exactValues, WithinBounds, margin}
 use Rattle.emission.proofs.work_out.Kinds as work-out-kinds
 use Rattle.emission.proofs.work_out.Reads as work-out-reads
-use Rattle.archive.specs.Layout.{Line, archiveOf, usedLength, recordSize, edition}
+use Rattle.records.specs.Layout.{Line, archiveOf, usedLength, recordSize, edition}
 use Rattle.archive.specs.Answers.{Answer, shown, ofEmptied, ofFiling, ofHighest, handed}
 use Rattle.history.specs.Ledger.{Call, empty, file, show, worst, answers, lines}
 use Rattle.archive.specs.Called.{Called}

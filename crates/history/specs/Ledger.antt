@@ -6,8 +6,9 @@ use lib.Dec.{ltb, leb, eqb}
 use lib.ListN.{length, getD}
 use Rattle.scenario.specs.Refusal.{Condition, _when_, firstOf}
 use Rattle.scenario.specs.Case.{refusals}
-use Rattle.archive.specs.Layout.{Line, noLine, recordOf, trailerSize, usedLength, recordSize}
-use Rattle.archive.specs.Lines.{accepted, held, full, worstOf, notCompartment}
+use Rattle.records.specs.Layout.{Line, noLine, recordOf, trailerSize, usedLength, recordSize}
+use Rattle.archive.specs.Conditions.{accepted, full, notCompartment}
+use Rattle.records.specs.Lines.{held, worstOf}
 use Rattle.archive.specs.Answers.{Answer, emptied, filed, shown, named}
 
 -- What the ledger is fed of a call: its arguments other than the archive and the used length; with a filing within the

@@ -1,0 +1,39 @@
+-- The invariant: the stores that are left, over the bytes as they are, make the bytes that are asked.
+use mathlib.Core.Path.{_≡_, refl, sym, _∙_}
+use Prim.Native.Nat.{_+_, _-_, _≤_}
+use native.Mathlib.Nat.{add-zero}
+use native.Mathlib.Omega.{arith}
+use borrow.Author.Needs.{needs}
+use lib.ListN.{length, drop, length-set}
+use lib.Seq.{sets}
+use Rattle.records.proofs.Writing.{copy-step, copy-done}
+use Rattle.records.proofs.put_bytes.Statement.{statement}
+use Rattle.records.proofs.put_bytes.Tie as tie
+
+abbrev Inv-loop : tie.InvT-loop
+Inv-loop b₀ at s i₀ b i = (i ≤ length s) × (length b ≡ length b₀) × (sets b (at + i) (drop i s) ≡ sets b₀ at s)
+
+abbrev μ-loop : tie.MeasureT-loop
+μ-loop b₀ at s i₀ b i = length s - i
+
+pub put-bytes-spec : {M : Type 1} → statement M
+put-bytes-spec =
+    tie.close
+    (tie.spec
+    Inv-loop
+    μ-loop
+    (λ c. (omega arith, refl, rw add-zero))
+    (λ c. omega arith)
+    (λ c. omega arith)
+    (λ c. omega arith)
+    (λ c. omega arith)
+    (λ c. omega arith)
+    (λ c.
+    let l = c .before .before .loop in
+    let a = c .before .before .before .args in
+    (omega arith, simp length-set (l .inv .1), sym (copy-step (l .b) (a .s .now) (a .at) (l .i) (c .before .loop-test .taken)) ∙ l .inv .2))
+    (λ c. search needs)
+    (λ c.
+    let l = c .before .loop in
+    let a = c .before .before .args in
+    copy-done (l .b) (a .b .now) (a .s .now) (a .at) (l .i) (c .loop-test .left) (c .before .before .pre) (l .inv .2)))
