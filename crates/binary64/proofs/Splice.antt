@@ -1,15 +1,16 @@
 -- Laws of `splice`, the one form in which a write is stated: `splice-nil`, `length-splice`, `splice-splice`, `splice-join`,
--- `splice-read` (what was written is read back), `put-one` (one byte stored), `put-halves` (a number written by halves).
+-- `splice-read` (what was written is read back), `put-one` (one byte stored), `put-halves` (a number written by halves),
+-- `copy-more`, `copy-rest` (bytes copied, some at a time).
 -- Laws of the bytes themselves are in `Numbers`.
 use mathlib.Core.Path.{_≡_, refl, sym, ap, _∙_}
 use mathlib.Core.List.{List, [], _∷_, _++_, append-assoc, append-nil}
-use Prim.Native.Nat.{ℕ, zero, suc, _+_, _/_, _%_, _^_, _≤_, _<_}
+use Prim.Native.Nat.{ℕ, zero, suc, _+_, _-_, _/_, _%_, _^_, _≤_, _<_}
 use native.Mathlib.Nat.{add-zero, add-suc, suc-add, mod-eq-of-lt}
 use native.Mathlib.Omega.{arith}
-use lib.ListN.{length, take, drop, set, length-append, take-append-drop}
-use lib.Seq.{sets, sets-eq, length-sets, length-take-le, take-append-seam, drop-at}
-use Rattle.binary64.specs.Bytes.{bytesOf, splice}
-use Rattle.binary64.proofs.Numbers.{length-bytesOf, bytesOf-halves}
+use lib.ListN.{length, take, drop, getD, set, length-append, length-drop, take-append-drop}
+use lib.Seq.{sets, sets-eq, length-sets, length-take-le, take-all, take-append-seam, take-add, drop-at}
+use Rattle.binary64.specs.Bytes.{bytesOf, numberAt, splice}
+use Rattle.binary64.proofs.Numbers.{length-bytesOf, bytesOf-halves, bytesOf-numberAt}
 
 -- `splice` is the library's `sets`, a store for each place
 as-stores : (l : List ℕ) (at : ℕ) (vs : List ℕ) → at + length vs ≤ length l → sets l at vs ≡ splice l at vs
@@ -60,3 +61,20 @@ put-halves a at w v x h e f =
     let p : length low ≡ w = length-bytesOf w (x % 256 ^ w) in
     let q : length high ≡ v = length-bytesOf v (x / 256 ^ w) in
     rw (bytesOf-halves w v x) (splice-join a at (at + w) low high e f (rw p) (rw (p, q) h))
+
+-- the first i bytes of s are copied, and the w behind them as a number
+pub copy-more : (a s : List ℕ) {b c : List ℕ} (at i w : ℕ) {x : ℕ} → ((j : ℕ) → getD s j 0 < 256) → at + length s ≤ length a → i + w ≤ length s
+    → b ≡ splice a at (take i s) → x ≡ numberAt s i w → c ≡ splice b (at + i) (bytesOf w x) → c ≡ splice a at (take (i + w) s)
+copy-more a s at i w {x} d h k e r f =
+    let p : length (take i s) ≡ i = length-take-le i s (omega arith) in
+    let g : bytesOf w x ≡ take w (drop i s) = ap (bytesOf w) r ∙ bytesOf-numberAt s i w d k in
+    let q : length (bytesOf w x) ≡ w = length-bytesOf w x in
+    rw (take-add, ← g) (splice-join a at (at + i) (take i s) (bytesOf w x) e f (rw p) (rw (p, q) (omega arith)))
+
+-- the first n bytes of s are copied, and the others behind them
+pub copy-rest : (a s : List ℕ) {b c : List ℕ} (at n : ℕ) → at + length s ≤ length a → n ≤ length s
+    → b ≡ splice a at (take n s) → c ≡ splice b (at + n) (take (length s - n) (drop n s)) → c ≡ splice a at s
+copy-rest a s at n h k e f =
+    let p : length (take n s) ≡ n = length-take-le n s k in
+    let f′ = rw (take-all (length s - n) (drop n s) (rw length-drop (omega arith))) at f in
+    rw (take-append-drop n s) at (splice-join a at (at + n) (take n s) (drop n s) e f′ (rw p) (rw (p, length-drop) (omega arith)))
