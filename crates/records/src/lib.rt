@@ -5,6 +5,7 @@ ghost use lib.ListN.{length};
 ghost use Rattle.binary64.specs.Bytes.{splice};
 ghost use Rattle.records.specs.Layout.{figureBytes, trailer, lineOf, usedLength, mostRecords, recordSize, edition};
 ghost use Rattle.records.specs.Buffer.{countAt, broken, written};
+use binary64::bytes::put_bytes;
 use binary64::bytes::put_u32;
 use binary64::bytes::put_u64;
 use binary64::bytes::u32_at;
@@ -46,18 +47,6 @@ pub fn is_broken(archive: &[u8], used: u64) -> bool
     let records = RECORD_SIZE * n;
     (end != records + TRAILER_SIZE)
         | ((u64_at(archive, end - 16) != records as u64) | (u32_at(archive, end - 4) != EDITION))
-}
-
-// Writes the bytes of s from `at` on.
-fn put_bytes(b: &mut [u8], at: usize, s: &[u8])
-    requires { ⌜ at + length (now s) ≤ length (now b) ⌝ }
-    ensures { λ _. ⌜ now (b .exit) ≡ splice (now (b .entry)) at (now (s .entry)) ⌝ }
-{
-    let mut i = 0;
-    while i < s.len() {
-        b[at + i] = s[i];
-        i += 1;
-    }
 }
 
 // Writes four figures from `at` on.
