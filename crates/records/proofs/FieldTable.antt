@@ -15,7 +15,7 @@ use Rattle.binary64.proofs.Numbers.{length-bytesOf}
 use Rattle.scenario.specs.Builder.{caseBytes}
 use Rattle.scenario.proofs.Bools.{both}
 use Rattle.records.specs.Layout.{Line, figureBytes, recordOf, trailer, recordSize, edition, bytesAt}
-use Rattle.records.specs.Fields.{Source, given, figure, Field, fields, noField, coversFrom, fieldBytes}
+use Rattle.records.specs.Fields.{Source, given, figureAt, Field, fields, noField, coversFrom, fieldBytes}
 use Rattle.records.specs.Buffer.{written}
 use Rattle.records.proofs.RecordLaws.{Sized, length-recordOf}
 
@@ -35,7 +35,7 @@ fields-of-case kind row route user t dossier a b c d e f = refl
 -- it lies in the case, or is the place of one of the four figures
 abbrev Placed : ℕ → ℕ → Source → Type 0
 Placed o w given = o + w ≤ 64
-Placed o w (figure k) = (o ≡ 64 + 8 * k) × (w ≡ 8) × (k < 4)
+Placed o w (figureAt k) = (o ≡ 64 + 8 * k) × (w ≡ 8) × (k < 4)
 
 figure-place : (fs : List ℕ) (k : ℕ) → k < length fs → bytesAt (figureBytes fs) (8 * k) 8 ≡ bytesOf 8 (getD fs k 0)
 unfolding figureBytes
@@ -50,7 +50,7 @@ unfolding recordOf
 in-record l o w given h p =
     let c = h .case-size in
     rw (drop-append-le o (l .case) (figureBytes (l .figures)) (omega arith)) (take-append-le w (drop o (l .case)) (figureBytes (l .figures)) (rw length-drop (omega arith)))
-in-record l o w (figure k) h p =
+in-record l o w (figureAt k) h p =
     let f = h .four in
     let q : o ≡ length (l .case) + 8 * k = rw (h .case-size) (p .0) in
     rw (q, p .1, drop-append-add (l .case) (figureBytes (l .figures)) (8 * k)) (figure-place (l .figures) k (omega arith))
@@ -58,7 +58,7 @@ in-record l o w (figure k) h p =
 -- every field of the table is placed: one computed test
 abbrev placed : Field → Source → Bool
 placed f given = leb (f .offset + f .width) 64
-placed f (figure k) = eqb (f .offset) (64 + 8 * k) && (eqb (f .width) 8 && ltb k 4)
+placed f (figureAt k) = eqb (f .offset) (64 + 8 * k) && (eqb (f .width) 8 && ltb k 4)
 
 abbrev allPlaced : List Field → Bool
 allPlaced [] = true
@@ -71,14 +71,14 @@ placed-at (f ∷ fs) d (suc k) h e = placed-at fs d k (le-of-suc-le-suc h) (both
 
 as-placed : (f : Field) (s : Source) → placed f s ≡ true → Placed (f .offset) (f .width) s
 as-placed f given e = leb-true _ _ e
-as-placed f (figure k) e =
+as-placed f (figureAt k) e =
     let p = both (eqb (f .offset) (64 + 8 * k)) (eqb (f .width) 8 && ltb k 4) e in
     let q = both (eqb (f .width) 8) (ltb k 4) (p .1) in
     (eqb-true _ _ (p .0), eqb-true _ _ (q .0), ltb-true _ _ (q .1))
 
 within-record : (o w : ℕ) (s : Source) → Placed o w s → o + w ≤ recordSize
 within-record o w given p = omega arith
-within-record o w (figure k) p = omega arith
+within-record o w (figureAt k) p = omega arith
 
 -- ── and in what is written
 

@@ -3,6 +3,7 @@ pub mod Writing
 pub mod RecordLaws
 pub mod Trailer
 pub mod Scan
+pub mod HeldLine
 pub mod WorstLine
 pub mod FieldTable
 pub mod Holding

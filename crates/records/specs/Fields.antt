@@ -11,7 +11,7 @@ use Rattle.records.specs.Layout.{Line, recordSize}
 -- bytes of the case, or the figure of a place from 0
 pub data Source : Type 0 where
   given : Source
-  figure : ℕ → Source
+  figureAt : ℕ → Source
 
 pub record Field : Type 0 where
   pub offset : ℕ
@@ -28,7 +28,7 @@ fields =
     -- the quantities a to f
     ∷ field 16 8 given ∷ field 24 8 given ∷ field 32 8 given ∷ field 40 8 given ∷ field 48 8 given ∷ field 56 8 given
     -- the figures: STP, surface water, air, soil
-    ∷ field 64 8 (figure 0) ∷ field 72 8 (figure 1) ∷ field 80 8 (figure 2) ∷ field 88 8 (figure 3)
+    ∷ field 64 8 (figureAt 0) ∷ field 72 8 (figureAt 1) ∷ field 80 8 (figureAt 2) ∷ field 88 8 (figureAt 3)
     ∷ []
 
 -- what stands for a field that is not there
@@ -43,4 +43,4 @@ coversFrom p (f ∷ fs) = eqb (f .offset) p && coversFrom (p + f .width) fs
 -- the bytes of a field in the record of a line
 abbrev pub fieldBytes : Line → ℕ → ℕ → Source → List ℕ
 fieldBytes l o w given = take w (drop o (l .case))
-fieldBytes l o w (figure k) = bytesOf w (getD (l .figures) k 0)
+fieldBytes l o w (figureAt k) = bytesOf w (getD (l .figures) k 0)

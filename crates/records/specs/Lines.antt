@@ -1,5 +1,6 @@
--- Terms of paper 01 on the lines that an archive holds: the same filing, held, the worst line. They read no bytes but a case's.
+-- Terms of paper 01 on lines: the same filing, held, the worst line. No bytes are read here but those of cases.
 -- Paper 01, 'The archive'. The searches here, the calls of `archive` and the ledger of `history` share them.
+use mathlib.Core.Path.{_≡_}
 use mathlib.Core.Bool.{Bool, true, false, _&&_, _||_, cond}
 use mathlib.Core.List.{List, [], _∷_}
 use Prim.Native.Nat.{ℕ, suc, _-_, _≤_, _<_, max}
@@ -15,14 +16,21 @@ sameBytes [] (y ∷ ys) = false
 sameBytes (x ∷ xs) [] = false
 sameBytes (x ∷ xs) (y ∷ ys) = eqb x y && sameBytes xs ys
 
--- The same filing, the paper's term: bytes 0–3 and 8–15 agree.
+-- The same filing, the paper's term: the head without T, and the dossier number.
 unfoldable pub sameFiling : List ℕ → List ℕ → Bool
 sameFiling c d = sameBytes (bytesAt c 0 4) (bytesAt d 0 4) && sameBytes (bytesAt c 8 8) (bytesAt d 8 8)
 
--- A case is held, the paper's term, when the case of some line is the same filing.
+-- held, the paper's term
 unfoldable pub held : List Line → List ℕ → Bool
 held [] c = false
 held (l ∷ ls) c = sameFiling (l .case) c || held ls c
+
+-- What it is to be held, of bytes: some line's case has those 12 bytes. `held-exactly` says that held is this.
+pub record IsHeld (ls : List Line) (c : List ℕ) : Type 0 where
+  pub place : ℕ
+  pub there : place < length ls
+  pub head : bytesAt (getD ls place noLine .case) 0 4 ≡ bytesAt c 0 4
+  pub dossier : bytesAt (getD ls place noLine .case) 8 8 ≡ bytesAt c 8 8
 
 -- ── the worst line
 
@@ -44,7 +52,7 @@ unfoldable pub firstAbove : ℕ → ℕ → List Line → ℕ
 firstAbove m x [] = 0
 firstAbove m x (l ∷ ls) = cond (ltb x (figure m l)) 0 (suc (firstAbove m x ls))
 
--- the number of the line with the highest figure, the first filed among equals
+-- the worst line: of those that have the highest figure, the one with the lowest number
 unfoldable pub worstOf : ℕ → List Line → ℕ
 worstOf m ls = firstWith m (highest m ls) ls
 
