@@ -4,24 +4,21 @@ use mathlib.Core.Path.{_≡_, refl, sym, ap, _∙_}
 use mathlib.Core.List.{List}
 use Prim.Native.Nat.{ℕ, _+_, _*_, _-_, _≤_, _<_}
 use native.Mathlib.Omega.{arith}
-use borrow.Author.Tests.{ltb-false, leb-false, eqb-false}
-use lib.Dec.{ltb, eqb}
+use borrow.Author.Tests.{leb-false}
 use lib.ListN.{length, getD}
 use Rattle.scenario.specs.Refusal.{firstOf}
 use Rattle.scenario.specs.Case.{refusalOf}
 use Rattle.emission.specs.Figures.{figuresOf}
 use Rattle.records.specs.Layout.{usedLength, mostRecords, recordSize, bytesAt}
 use Rattle.records.specs.Fields.{fields, noField, fieldBytes}
-use Rattle.archive.specs.Conditions.{full}
 use Rattle.records.specs.Buffer.{countAt, written}
 use Rattle.records.proofs.Trailer.{Sound, sound-facts}
 use Rattle.records.proofs.FieldTable.{written-field}
 use Rattle.archive.specs.Archive.{showRefusals, showRefusal, fileRefusal, filing, lineFor, fileBytes}
 use Rattle.archive.specs.declared.Filing.the-variants.{Filed, Refused}
-use Rattle.scenario.proofs.Bools.{neither}
 use Rattle.scenario.proofs.Refusals.{none-holds}
 use Rattle.archive.proofs.Cases.{sized-line}
-use Rattle.archive.proofs.Refusals.{fromState, both-zero, file-refusal-is, accepted-refused}
+use Rattle.archive.proofs.Refusals.{full-exactly, fromState, both-zero, file-refusal-is, accepted-refused}
 
 -- ── show that is not refused
 
@@ -46,15 +43,13 @@ pub record Free (b : List ℕ) (u : ℕ) (c : List ℕ) : Type 0 where
   pub fewer : countAt b u < mostRecords
 
 pub free-facts : (b : List ℕ) (u : ℕ) (c : List ℕ) → fileRefusal b u c ≡ 0 → Free b u c
-unfolding full
 free-facts b u c e =
     let z = both-zero (refusalOf c) (firstOf (fromState b u c)) (sym (file-refusal-is b u c) ∙ e) in
     let h = none-holds (fromState b u c) refl (z .1) in
-    let f = neither (ltb (length b - u) recordSize) (eqb (countAt b u) mostRecords) (h 2) in
     let s = sound-facts b u (h 0) in
-    let r : recordSize ≤ length b - u = ltb-false _ _ (f .0) in
-    let n : countAt b u ≡ mostRecords → ⊥ = eqb-false _ _ (f .1) in
-    record { within-ranges = z .0; sound = s; room = omega arith; fewer = omega arith }
+    let f = full-exactly (length b) u (countAt b u) .0 (h 2) in
+    let n = f .1 in
+    record { within-ranges = z .0; sound = s; room = f .0; fewer = omega (arith, s .few) }
 
 pub file-refused : (b : List ℕ) (u : ℕ) (c : List ℕ) (r : ℕ) → r ≡ fileRefusal b u c → (r ≡ 0 → ⊥) → (Refused r ≡ filing b u c) × (b ≡ fileBytes b u c)
 unfolding filing fileBytes

@@ -3,4 +3,3 @@ pub mod Refusals
 pub mod FigureSize
 pub mod Cases
 pub mod Accepted
-pub mod Calls

@@ -2,4 +2,3 @@
 pub mod Conditions
 pub mod Archive
 pub mod Answers
-pub mod Called

@@ -1,4 +1,4 @@
--- The rule of held and its meaning: `held-exactly`.
+-- The rule of held and its meaning: `held-exactly`, and of a case that is not, `not-held`.
 use mathlib.Core.Path.{_≡_, refl}
 use mathlib.Core.Bool.{Bool, true, false, _||_, false≢true}
 use mathlib.Core.List.{List, [], _∷_}
@@ -55,3 +55,10 @@ holds-it (l ∷ ls) c (suc k) h p q = rw (holds-it ls c k (le-of-suc-le-suc h) p
 
 pub held-exactly : (ls : List Line) (c : List ℕ) → (held ls c ≡ true → IsHeld ls c) × (IsHeld ls c → held ls c ≡ true)
 held-exactly ls c = (is-held ls c, λ h. holds-it ls c (h .place) (h .there) (h .head) (h .dossier))
+
+pub not-held : (ls : List Line) (c : List ℕ) → (IsHeld ls c → ⊥) → held ls c ≡ false
+not-held ls c h = go (held ls c) refl
+  where
+    go : (t : Bool) → held ls c ≡ t → t ≡ false
+    go true e = absurd (h (held-exactly ls c .0 e))
+    go false e = refl
