@@ -13,7 +13,7 @@ use Rattle.emission.specs.Figures.{exactValues, figuresOf}
 use Rattle.emission.proofs.Accepted.{figures-exact}
 use Rattle.archive.specs.Archive.{lineFor}
 use Rattle.archive.proofs.FigureSize.{figures-fit}
-use Rattle.archive.proofs.RecordLaws.{Fit, Sized, Storable}
+use Rattle.records.proofs.RecordLaws.{Fit, Sized, Storable}
 
 pub case-size : (c : List ℕ) → refusalOf c ≡ 0 → length c ≡ 64
 case-size c e = passed c e .sixty-four

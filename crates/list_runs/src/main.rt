@@ -3,11 +3,11 @@ ghost use mathlib.Core.Path.{_≡_};
 ghost use Prim.Native.Nat.{_≤_, _<_};
 ghost use lib.ListN.{length};
 ghost use Rattle.scenario.specs.Builder.{caseBytes};
-ghost use Rattle.archive.specs.Layout.{usedLength, recordSize};
-use archive::records::put_line;
+ghost use Rattle.records.specs.Layout.{usedLength, recordSize};
 use binary64::bytes::put_u64;
 use libc::STDOUT_FILENO;
 use listing::Listed;
+use records::put_line;
 
 const HIGHEST: u64 = 18446744073709551615;
 
