@@ -1,12 +1,12 @@
--- Laws of the table of kinds: `by-kind` (what holds of each kind, and of what is none), `no-kind`, `rows-count` (T with the paper's rows),
+-- Laws of the table of kinds: `by-kind` (what holds of each kind, and of what is none), `no-kind`, `paper-rows-count` (T with the paper's rows),
 -- `city-rows` and `city-life` (of the kinds for a city), `other-users`.
--- Of ranges: `in-range`, `from-zero`, `only-zero`, `none-allowed`.
+-- Of ranges: `in-range`, `only-zero`.
 -- Laws of limits are in `Limits`.
-use mathlib.Core.Path.{_≡_, refl, sym}
-use mathlib.Core.Bool.{true, false, _&&_}
+use mathlib.Core.Path.{_≡_, refl}
+use mathlib.Core.Bool.{true, false}
 use Prim.Native.Nat.{ℕ, zero, suc, _≤_}
 use native.Mathlib.Omega.{arith}
-use lib.Dec.{leb, eqb, leb·zero, leb·suc-zero, eqb·suc-zero}
+use lib.Dec.{leb}
 use borrow.Author.Tests.{lt-leb, leb-true}
 use Rattle.scenario.specs.Case.{Range, within, _to_, kinds, noKind, kindAt}
 use Rattle.scenario.proofs.Bools.{both, and-false}
@@ -18,17 +18,12 @@ in-range r n h =
     let p = both (leb (r .from) n) (leb n (r .to)) h in
     (leb-true (r .from) n (p .0), leb-true n (r .to) (p .1))
 
-pub from-zero : (m n : ℕ) → within (0 to m) n ≡ leb n m
-from-zero m n = rw leb·zero
-
-pub only-zero : (n : ℕ) → within (0 to 0) n ≡ eqb n 0
-only-zero zero = refl
-only-zero (suc n) = rw (leb·zero, leb·suc-zero, eqb·suc-zero)
+pub only-zero : (n : ℕ) → within (0 to 0) n ≡ true → n ≡ 0
+only-zero n w = let r = in-range (0 to 0) n w in omega arith
 
 -- what is no kind allows nothing
-pub none-allowed : (n : ℕ) → within (1 to 0) n ≡ false
-none-allowed zero = refl
-none-allowed (suc n) = rw leb·suc-zero (and-false (leb 1 (suc n)))
+none-allowed : {A : Type 0} (n : ℕ) → within (1 to 0) n ≡ true → A
+none-allowed n w = let r = in-range (1 to 0) n w in absurd (omega arith)
 
 -- ── kinds
 
@@ -47,7 +42,7 @@ by-kind P a b c d e f g h (suc (suc (suc (suc (suc (suc (suc (suc k)))))))) =
     h n (rw (lt-leb n 7 (omega arith)) (and-false (leb 1 n))) refl
 
 -- what a match on the seven kinds leaves to its last arm
-abbrev pub OtherThan7 : ℕ → Type 0
+abbrev OtherThan7 : ℕ → Type 0
 OtherThan7 k = ((((((Unit {0} × (k ≡ 1 → ⊥)) × (k ≡ 2 → ⊥)) × (k ≡ 3 → ⊥)) × (k ≡ 4 → ⊥)) × (k ≡ 5 → ⊥)) × (k ≡ 6 → ⊥)) × (k ≡ 7 → ⊥)
 
 pub no-kind : (k : ℕ) → OtherThan7 k → kindAt k ≡ noKind
@@ -62,15 +57,11 @@ no-kind =
     (λ o. absurd (o .1 refl))
     (λ k w e o. e)
 
-pub rows-count : (k t : ℕ) → (leb 1 k && leb k 7 && eqb t 0) ≡ within (kindAt k .rowCount) t
+pub paper-rows-count : (k t : ℕ) → within (kindAt k .rowCount) t ≡ true → t ≡ 0
 unfolding kindAt kinds
-rows-count k t =
-    let z : eqb t 0 ≡ within (0 to 0) t = sym (only-zero t) in
-    by-kind (λ k. (leb 1 k && leb k 7 && eqb t 0) ≡ within (kindAt k .rowCount) t) z z z z z z z (λ k w e. rw (w, e) (sym (none-allowed t))) k
-
--- of what is no kind, in a range of its own that allows nothing
-nothing : {A : Type 0} (n : ℕ) → within (1 to 0) n ≡ true → A
-nothing n w = let r = in-range (1 to 0) n w in absurd (omega arith)
+paper-rows-count k t =
+    let z : within (0 to 0) t ≡ true → t ≡ 0 = only-zero t in
+    by-kind (λ k. within (kindAt k .rowCount) t ≡ true → t ≡ 0) z z z z z z z (λ k o e w. none-allowed t (rw e at w)) k
 
 pub city-rows : (k row : ℕ) → k ≤ 3 → within (kindAt k .rows) row ≡ true → row ≤ 7
 unfolding kindAt kinds
@@ -78,7 +69,7 @@ city-rows k row =
     by-kind (λ k. k ≤ 3 → within (kindAt k .rows) row ≡ true → row ≤ 7)
     (λ h w. in-range (0 to 7) row w .1) (λ h w. in-range (0 to 7) row w .1) (λ h w. in-range (0 to 7) row w .1)
     (λ h w. absurd (omega arith)) (λ h w. absurd (omega arith)) (λ h w. absurd (omega arith)) (λ h w. absurd (omega arith))
-    (λ k o e h w. nothing row (rw e at w))
+    (λ k o e h w. none-allowed row (rw e at w))
     k
 
 pub city-life : (k t : ℕ) → k ≤ 2 → within (kindAt k .ownCount) t ≡ true → (31 ≤ t) × (t ≤ 36500)
@@ -87,14 +78,14 @@ city-life k t =
     by-kind (λ k. k ≤ 2 → within (kindAt k .ownCount) t ≡ true → (31 ≤ t) × (t ≤ 36500))
     (λ h w. in-range (31 to 36500) t w) (λ h w. in-range (31 to 36500) t w)
     (λ h w. absurd (omega arith)) (λ h w. absurd (omega arith)) (λ h w. absurd (omega arith)) (λ h w. absurd (omega arith)) (λ h w. absurd (omega arith))
-    (λ k o e h w. nothing t (rw e at w))
+    (λ k o e h w. none-allowed t (rw e at w))
     k
 
 pub other-users : (k user : ℕ) → (k ≡ 3 → ⊥) → within (kindAt k .users) user ≡ true → user ≡ 0
 unfolding kindAt kinds
 other-users k user =
-    let z : within (0 to 0) user ≡ true → user ≡ 0 = (λ w. let r = in-range (0 to 0) user w in omega arith) in
+    let z : within (0 to 0) user ≡ true → user ≡ 0 = only-zero user in
     by-kind (λ k. (k ≡ 3 → ⊥) → within (kindAt k .users) user ≡ true → user ≡ 0)
     (λ h. z) (λ h. z) (λ h w. absurd (h refl)) (λ h. z) (λ h. z) (λ h. z) (λ h. z)
-    (λ k o e h w. nothing user (rw e at w))
+    (λ k o e h w. none-allowed user (rw e at w))
     k

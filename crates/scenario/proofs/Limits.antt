@@ -13,16 +13,12 @@ use Rattle.binary64.specs.Quantity.{whole, one}
 use Rattle.binary64.proofs.Order.{limit-as-pattern}
 use Rattle.scenario.specs.Refusal.{firstOf}
 use Rattle.scenario.specs.Case.{Listing, unlisted, upTo, Kind, kinds, noKind, kindAt, listingsAt, listingAt, anyOfSix, anyNotNumber, notZeroBytes, overLimit, sumOver, quantityRefusals}
-use Rattle.scenario.specs.Patterns.{at, limitPattern, limitPatterns, addFaults, faultsOf}
+use Rattle.scenario.specs.Patterns.{at, IsLimit, limitPattern, limitPatterns, addFaults, faultsOf}
 use Rattle.scenario.specs.declared.quantities.Faults.{Faults}
 use Rattle.scenario.proofs.Six.{six-same}
 use Rattle.scenario.proofs.Bools.{both}
 
--- ── the rule: 0 for an unlisted quantity, otherwise a pattern whose exact value is the limit
-
-abbrev IsLimit : Listing → ℕ → Type 0
-IsLimit unlisted m = m ≡ 0
-IsLimit (upTo n) m = (whole m ≡ n * one) × (eqb m 0 ≡ false)
+-- ── the rule of a limit, as a test
 
 isLimit : Listing → ℕ → Bool
 isLimit unlisted m = eqb m 0
@@ -91,7 +87,7 @@ over-by-limit (upTo n) m p h = rw (h .1) (ap not (limit-as-pattern p m n (h .0))
 -- ── of all six
 
 -- the faults found in six patterns, one after the other by its limit
-abbrev pub found : List ℕ → List ℕ → ℕ → Faults
+abbrev found : List ℕ → List ℕ → ℕ → Faults
 found ms ps zero = record { invalid = false; stray = false; over = false }
 found ms ps (suc i) = addFaults (found ms ps i) (at ms i) (at ps i)
 

@@ -1,4 +1,4 @@
--- What a case satisfies that no refusal holds for: the record `Passed`, and `passed`.
+-- `passed`: a case that no refusal holds for satisfies what the record `Passed` says.
 -- A pattern's exact value and its order are in crate binary64.
 use mathlib.Core.Path.{_≡_, refl, subst}
 use mathlib.Core.Bool.{Bool, true, false, _&&_, _||_}
@@ -12,48 +12,11 @@ use borrow.Author.Tests.{not-false, leb-true, eqb-true, eq-eqb, ne-eqb}
 use Rattle.binary64.specs.Pattern.{isUnsignedFinite}
 use Rattle.binary64.specs.Quantity.{whole, one}
 use Rattle.scenario.specs.Case.{Listing, unlisted, upTo, _to_, within, kinds, kindAt, countsAt, listingAt, kindOf, rowOf, routeOf, userOf, countOf, dossierOf, patternAt, notSixtyFour, kindUnknown, rowUnknown, routeNotAllowed, userNotAllowed, countNotAllowed, dossierZero, anyNotNumber, notZeroBytes, overLimit, sumWithin, sumOver, refusals, refusalOf}
+pub use Rattle.scenario.specs.Passed.{Passed}
 use Rattle.scenario.proofs.Bools.{both}
 use Rattle.scenario.proofs.Refusals.{none-holds}
-use Rattle.scenario.proofs.KindTable.{in-range, rows-count, city-rows, city-life, other-users}
+use Rattle.scenario.proofs.KindTable.{in-range, only-zero, paper-rows-count, city-rows, city-life, other-users}
 use Rattle.scenario.proofs.Six.{none-of-six, each-finite}
-
-pub record Passed (b : List ℕ) : Type 0 where
-  -- refusals 1 to 7 as tests
-  pub sixty-four : length b ≡ 64
-  pub kind : within (1 to 7) (kindOf b) ≡ true
-  pub row : within (kindAt (kindOf b) .rows) (rowOf b) ≡ true
-  pub route : routeNotAllowed (kindOf b) (rowOf b) (routeOf b) ≡ false
-  pub user : within (kindAt (kindOf b) .users) (userOf b) ≡ true
-  pub count : within (countsAt (kindOf b) (rowOf b)) (countOf b) ≡ true
-  pub dossier : dossierZero (dossierOf b) ≡ false
-  -- the kind and the rows
-  pub kind-from : 1 ≤ kindOf b
-  pub kind-to : kindOf b ≤ 7
-  pub city-row : kindOf b ≤ 3 → rowOf b ≤ 7
-  pub sanitary-row : kindOf b ≡ 4 → rowOf b ≤ 1
-  pub formulation-row : kindOf b ≡ 5 → rowOf b ≡ 0
-  pub hygiene-row : kindOf b ≡ 6 → rowOf b ≤ 5
-  pub toilets-row : kindOf b ≡ 7 → rowOf b ≤ 1
-  -- the routes and the users
-  pub route-from : 1 ≤ routeOf b
-  pub route-to : routeOf b ≤ 2
-  pub rain-sewer : routeOf b ≡ 2 → kindOf b ≤ 3
-  pub application-user : kindOf b ≡ 3 → (1 ≤ userOf b) × (userOf b ≤ 2)
-  pub other-user : (kindOf b ≡ 3 → ⊥) → userOf b ≡ 0
-  -- T, with row 0 and with the paper's rows
-  pub life : kindOf b ≤ 2 → rowOf b ≡ 0 → (31 ≤ countOf b) × (countOf b ≤ 36500)
-  pub houses : kindOf b ≡ 3 → rowOf b ≡ 0 → (1 ≤ countOf b) × (countOf b ≤ 100)
-  pub sanitary-days : kindOf b ≡ 4 → rowOf b ≡ 0 → (1 ≤ countOf b) × (countOf b ≤ 366)
-  pub formulation-days : kindOf b ≡ 5 → rowOf b ≡ 0 → (1 ≤ countOf b) × (countOf b ≤ 366)
-  pub hygiene-count : kindOf b ≡ 6 → rowOf b ≡ 0 → countOf b ≡ 0
-  pub wagons : kindOf b ≡ 7 → rowOf b ≡ 0 → (1 ≤ countOf b) × (countOf b ≤ 100)
-  pub row-count : (rowOf b ≡ 0 → ⊥) → countOf b ≡ 0
-  -- the quantities: refusal 8 as a test, then what 8 to 11 leave
-  pub numbers : anyNotNumber (patternAt b) ≡ false
-  pub finite : (i : ℕ) → i < 6 → isUnsignedFinite (patternAt b i) ≡ true
-  pub zero-bytes : (i : ℕ) → i < 6 → listingAt (kindOf b) (rowOf b) i ≡ unlisted → patternAt b i ≡ 0
-  pub at-most : (i n : ℕ) → i < 6 → listingAt (kindOf b) (rowOf b) i ≡ upTo n → whole (patternAt b i) ≤ n * one
-  pub sum : kindOf b ≡ 5 → sumWithin (ofBits binary64 (patternAt b 2)) (ofBits binary64 (patternAt b 3)) (ofBits binary64 (patternAt b 4)) ≡ true
 
 -- ── what a condition that does not hold leaves
 
@@ -62,9 +25,7 @@ own-count : (k row t : ℕ) → row ≡ 0 → within (countsAt k row) t ≡ true
 own-count k row t e w = rw (eq-eqb row 0 e) at w
 
 paper-count : (k row t : ℕ) → (row ≡ 0 → ⊥) → within (countsAt k row) t ≡ true → t ≡ 0
-paper-count k row t h w =
-    let v : within (kindAt k .rowCount) t ≡ true = rw (ne-eqb row 0 h) at w in
-    eqb-true t 0 (both (leb 1 k && leb k 7) (eqb t 0) (rw (rows-count k t) v) .1)
+paper-count k row t h w = paper-rows-count k t (rw (ne-eqb row 0 h) at w)
 
 routes : (k row route : ℕ) → routeNotAllowed k row route ≡ false → (1 ≤ route) × (route ≤ 2) × (route ≡ 2 → k ≤ 3)
 unfolding routeNotAllowed
@@ -118,7 +79,7 @@ passed b e =
       kind-to = in-range (1 to 7) k kind-test .1;
       city-row = λ q. city-rows k r q row-test;
       sanitary-row = λ q. in-range (0 to 1) r (rows 4 q) .1;
-      formulation-row = λ q. let i = in-range (0 to 0) r (rows 5 q) in omega arith;
+      formulation-row = λ q. only-zero r (rows 5 q);
       hygiene-row = λ q. in-range (0 to 5) r (rows 6 q) .1;
       toilets-row = λ q. in-range (0 to 1) r (rows 7 q) .1;
       route-from = ways .0;
@@ -130,7 +91,7 @@ passed b e =
       houses = λ q z. in-range (1 to 100) t (counts 3 q z);
       sanitary-days = λ q z. in-range (1 to 366) t (counts 4 q z);
       formulation-days = λ q z. in-range (1 to 366) t (counts 5 q z);
-      hygiene-count = λ q z. let i = in-range (0 to 0) t (counts 6 q z) in omega arith;
+      hygiene-count = λ q z. only-zero t (counts 6 q z);
       wagons = λ q z. in-range (1 to 100) t (counts 7 q z);
       row-count = λ z. paper-count k r t z count-test;
       numbers = h 7;

@@ -10,7 +10,7 @@ use Prim.Native.Nat.{ℕ, zero, suc}
 use lib.Dec.{eqb}
 use lib.ListN.{length, getD}
 use borrow.Author.Tests.{ne-eqb, eqb-false, not-true}
-use Rattle.scenario.specs.Refusal.{Condition, _when_, firstOf, IsFirst, none, here, later}
+use Rattle.scenario.specs.Refusal.{Condition, _when_, firstOf, IsFirst, none, here, later, numbered}
 use Rattle.scenario.specs.Case.{kindOf, notSixtyFour, sumOver, headRefusals, quantityRefusals, refusals, refusalOf}
 use Rattle.scenario.specs.Patterns.{patternsOf, at}
 use Rattle.scenario.specs.declared.Head.{Head}
@@ -30,11 +30,6 @@ pub first-is-first-of : {cs : List Condition} {n : ℕ} → IsFirst cs n → fir
 first-is-first-of none = refl
 first-is-first-of (here e) = rw e
 first-is-first-of (later e r) = rw e (first-is-first-of r)
-
--- no condition has number 0
-abbrev pub numbered : List Condition → Bool
-numbered [] = true
-numbered (c ∷ cs) = not (eqb (c .number) 0) && numbered cs
 
 -- a list after another: its conditions count where none of the other holds
 pub first-of-append : (cs ds : List Condition) → numbered cs ≡ true → firstOf (cs ++ ds) ≡ cond (eqb (firstOf cs) 0) (firstOf ds) (firstOf cs)

@@ -50,7 +50,7 @@ m to n = record { from = m; to = n }
 abbrev pub within : Range → ℕ → Bool
 within r n = leb (r .from) n && leb n (r .to)
 
--- a quantity is unlisted, and then eight zero bytes, or listed with a limit that its exact value may reach
+-- A quantity is unlisted, or listed up to a limit, which it may reach.
 pub data Listing : Type 0 where
   unlisted : Listing
   upTo : ℕ → Listing
@@ -136,7 +136,7 @@ kindUnknown k = not (within (1 to 7) k)
 unfoldable pub rowUnknown : ℕ → ℕ → Bool
 rowUnknown k row = not (within (kindAt k .rows) row)
 
--- Route 1 leads to the sewage treatment plant, 2 by separated rain sewer to surface water: kinds 1 to 3, row 0 or 3 to 7.
+-- Route 1, to the plant, is open to every case; route 2, by the rain sewer, to a city's uses outdoors: its rows from 3 on, and row 0.
 unfoldable pub routeNotAllowed : ℕ → ℕ → ℕ → Bool
 routeNotAllowed k row route = not (eqb route 1 || (eqb route 2 && (within (1 to 3) k && (eqb row 0 || within (3 to 7) row))))
 
@@ -155,7 +155,7 @@ dossierZero dossier = eqb dossier 0
 abbrev pub anyOfSix : (ℕ → Bool) → Bool
 anyOfSix t = t 0 || t 1 || t 2 || t 3 || t 4 || t 5
 
--- the sign bit set, minus zero too, or exponent field 2047
+-- refusal 8: "with sign bit set (minus zero too) or exponent field 2047"
 unfoldable pub notNumber : ℕ → Bool
 notNumber pattern = not (isUnsignedFinite pattern)
 
@@ -178,7 +178,7 @@ overLimit (upTo n) pattern = not (leb (whole pattern) (n * one))
 abbrev pub anyOverLimit : ℕ → ℕ → (ℕ → ℕ) → Bool
 anyOverLimit k row p = anyOfSix (λ i. overLimit (listingAt k row i) (p i))
 
--- (c + d) + e, both additions rounded in binary64, is at most 1
+-- "The sum (c + d) + e, both additions rounded in binary64, is at most 1"
 unfoldable pub sumWithin : Float → Float → Float → Bool
 sumWithin c d e = le (add binary64 (add binary64 c d) e) (ofBits binary64 0x3ff0000000000000)
 

@@ -13,7 +13,7 @@ use Rattle.scenario.specs.declared.Head.{Head}
 use Rattle.scenario.specs.declared.Decoded.{Decoded}
 use Rattle.scenario.specs.declared.Decoded.the-variants.{Accepted, Refused}
 
--- row 0 takes area, volume and density from the case itself (kind 1 the area alone); what is unlisted is zero
+-- in row 0 a city's case brings its own site (kind 1 its area alone); what it does not list is zero
 abbrev pub siteWith : Float → Float → Float → Site
 siteWith d e f = record { area = d; volume = e; density = f }
 

@@ -1,11 +1,13 @@
 -- What the functions of this crate hold in numbers: ranges by their ends, quantities and limits as patterns.
-use mathlib.Core.Bool.{not, _&&_, _||_}
+use mathlib.Core.Path.{_≡_}
+use mathlib.Core.Bool.{false, not, _&&_, _||_}
 use mathlib.Core.List.{List, [], _∷_, map}
-use Prim.Native.Nat.{ℕ}
+use Prim.Native.Nat.{ℕ, _*_}
 use lib.Dec.{leb, eqb}
 use lib.Ieee.{binary64, ofInt, toBits}
 use lib.IntN.{pos}
 use lib.ListN.{getD}
+use Rattle.binary64.specs.Quantity.{whole, one}
 use Rattle.scenario.specs.Case.{Listing, unlisted, upTo, Kind, patternAt, notNumber, anyNotNumber, anyNotZeroBytes, anyOverLimit}
 use Rattle.scenario.specs.declared.quantities.Faults.{Faults}
 
@@ -31,6 +33,11 @@ boundsOf k =
 unfoldable pub limitPattern : Listing → ℕ
 limitPattern unlisted = 0
 limitPattern (upTo n) = toBits binary64 (ofInt binary64 (pos n))
+
+-- the rule of a limit held so: 0 for an unlisted quantity alone, otherwise a pattern whose exact value is the limit
+abbrev pub IsLimit : Listing → ℕ → Type 0
+IsLimit unlisted m = m ≡ 0
+IsLimit (upTo n) m = (whole m ≡ n * one) × (eqb m 0 ≡ false)
 
 abbrev pub limitPatterns : List Listing → List ℕ
 limitPatterns = map limitPattern

@@ -1,8 +1,9 @@
 -- A refusal is the first of a list of conditions that holds (paper 01, 'From the input, in this order').
 use mathlib.Core.Path.{_≡_}
-use mathlib.Core.Bool.{Bool, true, false, cond}
+use mathlib.Core.Bool.{Bool, true, false, not, _&&_, cond}
 use mathlib.Core.List.{List, [], _∷_}
 use Prim.Native.Nat.{ℕ}
+use lib.Dec.{eqb}
 
 -- a refusal's number, and whether what it is for holds
 pub record Condition : Type 0 where
@@ -23,3 +24,8 @@ pub data IsFirst : List Condition → ℕ → Type 0 where
   none : IsFirst [] 0
   here : {c : Condition} {cs : List Condition} → c .holds ≡ true → IsFirst (c ∷ cs) (c .number)
   later : {c : Condition} {cs : List Condition} {n : ℕ} → c .holds ≡ false → IsFirst cs n → IsFirst (c ∷ cs) n
+
+-- no condition has number 0
+abbrev pub numbered : List Condition → Bool
+numbered [] = true
+numbered (c ∷ cs) = not (eqb (c .number) 0) && numbered cs

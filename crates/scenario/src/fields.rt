@@ -28,7 +28,7 @@ fn kind_unknown(kind: u8) -> bool
     !((1 <= kind) & (kind <= 7))
 }
 
-// Route 2 is for kinds 1 to 3, with row 0 or 3 to 7.
+// Route 2, the rain sewer, is for the uses outdoors of a city.
 fn route_not_allowed(kind: u8, row: u8, route: u8) -> bool
     ensures { λ r. ⌜ r ≡ routeNotAllowed kind row route ⌝ }
 {

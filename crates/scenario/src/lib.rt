@@ -22,31 +22,31 @@ pub struct Site {
 
 // Kinds 1 to 7, each with its own quantities.
 pub enum Case {
-    // City, leaching measured: kg/m2 in the first 30 days and in the rest of the service life, market share.
+    // A city, by measured leaching in kg/m2: early, in 30 days, and late, after them; and the share of the market.
     Measured {
         early: f64,
         late: f64,
         share: f64,
         site: Site,
     },
-    // City, leaching unknown: active fraction, market share.
+    // A city, by what the product holds: its active part, and the share of the market.
     Unknown {
         active: f64,
         share: f64,
         site: Site,
     },
-    // City, application: active fraction.
+    // A city, by what is lost at application: the active part.
     Application {
         active: f64,
         site: Site,
     },
-    // Sanitary, tonnage: tonnes per year, fraction disintegrated, fraction to water.
+    // Sanitary use by tonnes a year: what part disintegrates, what part goes to water.
     Sanitary {
         tonnage: f64,
         disintegrated: f64,
         to_water: f64,
     },
-    // Formulation: tonnes per year, main source fraction, fractions to water, air and soil.
+    // Formulation by tonnes a year: the main source's part, and the parts to water, air and soil.
     Formulation {
         tonnage: f64,
         main_source: f64,
@@ -54,7 +54,7 @@ pub enum Case {
         to_air: f64,
         to_soil: f64,
     },
-    // Hygiene, consumption: active fraction, penetration, and with row 0 grams per use, uses per day, share of inhabitants.
+    // Hygiene products by use: the active part and the penetration; in row 0 also grams, uses a day and who uses them.
     Hygiene {
         active: f64,
         penetration: f64,
@@ -62,7 +62,7 @@ pub enum Case {
         uses: f64,
         share: f64,
     },
-    // Chemical toilets: litres of product per litre, active fraction, kg per litre, fraction disintegrated, fraction to the plant.
+    // Chemical toilets: the product's dose, active part and density, what part disintegrates, what part reaches the plant.
     Toilets {
         dose: f64,
         active: f64,

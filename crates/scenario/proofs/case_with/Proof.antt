@@ -17,4 +17,4 @@ case-with-spec =
     (λ c. rw (c .match .keys6))
     (λ c.
     let r = c .match .rest in
-    rw (ne-eqb _ 1 (r .0 .0 .0 .0 .0 .1), ne-eqb _ 2 (r .0 .0 .0 .0 .1), ne-eqb _ 3 (r .0 .0 .0 .1), ne-eqb _ 4 (r .0 .0 .1), ne-eqb _ 5 (r .0 .1), ne-eqb _ 6 (r .1))))
+    rw (ne-eqb _ _ (r .0 .0 .0 .0 .0 .1), ne-eqb _ _ (r .0 .0 .0 .0 .1), ne-eqb _ _ (r .0 .0 .0 .1), ne-eqb _ _ (r .0 .0 .1), ne-eqb _ _ (r .0 .1), ne-eqb _ _ (r .1))))

@@ -38,11 +38,11 @@ head-refusal-spec =
     let e3 = e4 .before .before in
     let e2 = e3 .before .before in
     let e1 = e2 .before .before in
-    rw (← e1 .before .kind-unknown .ensures, e1 .if1 .left, ← e2 .before .row-unknown .ensures, e2 .if2 .left, ← e3 .before .route-not-allowed .ensures, e3 .if3 .left, ← e4 .before .user-not-allowed .ensures, e4 .if4 .left, ← e5 .before .count-not-allowed .ensures, e5 .if5 .left, eq-eqb _ 0 (c .if6 .taken)))
+    rw (← e1 .before .kind-unknown .ensures, e1 .if1 .left, ← e2 .before .row-unknown .ensures, e2 .if2 .left, ← e3 .before .route-not-allowed .ensures, e3 .if3 .left, ← e4 .before .user-not-allowed .ensures, e4 .if4 .left, ← e5 .before .count-not-allowed .ensures, e5 .if5 .left, eq-eqb _ _ (c .if6 .taken)))
     (λ c.
     let e5 = c .before .before in
     let e4 = e5 .before .before in
     let e3 = e4 .before .before in
     let e2 = e3 .before .before in
     let e1 = e2 .before .before in
-    rw (← e1 .before .kind-unknown .ensures, e1 .if1 .left, ← e2 .before .row-unknown .ensures, e2 .if2 .left, ← e3 .before .route-not-allowed .ensures, e3 .if3 .left, ← e4 .before .user-not-allowed .ensures, e4 .if4 .left, ← e5 .before .count-not-allowed .ensures, e5 .if5 .left, ne-eqb _ 0 (c .if6 .left))))
+    rw (← e1 .before .kind-unknown .ensures, e1 .if1 .left, ← e2 .before .row-unknown .ensures, e2 .if2 .left, ← e3 .before .route-not-allowed .ensures, e3 .if3 .left, ← e4 .before .user-not-allowed .ensures, e4 .if4 .left, ← e5 .before .count-not-allowed .ensures, e5 .if5 .left, ne-eqb _ _ (c .if6 .left))))

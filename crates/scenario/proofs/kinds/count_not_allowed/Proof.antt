@@ -18,5 +18,5 @@ count-not-allowed-spec =
     (λ c. search needs)
     (λ c. search needs)
     (λ c κs. search needs)
-    (λ c. rw (c .outside .ensures, c .before .before .bounds-of .ensures, eq-eqb _ 0 (c .before .if1 .taken)))
-    (λ c. rw (c .outside2 .ensures, c .before .before .bounds-of .ensures, ne-eqb _ 0 (c .before .if1 .left))))
+    (λ c. rw (c .outside .ensures, c .before .before .bounds-of .ensures, eq-eqb _ _ (c .before .if1 .taken)))
+    (λ c. rw (c .outside2 .ensures, c .before .before .bounds-of .ensures, ne-eqb _ _ (c .before .if1 .left))))

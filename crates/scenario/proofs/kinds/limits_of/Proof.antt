@@ -14,5 +14,5 @@ limits-of-spec =
     (λ c κs. search needs)
     (λ c. search needs)
     (λ c. search needs)
-    (λ c. rw (c .before .before .limits-at .ensures, eq-eqb _ 0 (c .before .if1 .taken)))
-    (λ c. rw (c .before .before .limits-at .ensures, ne-eqb _ 0 (c .before .if1 .left))))
+    (λ c. rw (c .before .before .limits-at .ensures, eq-eqb _ _ (c .before .if1 .taken)))
+    (λ c. rw (c .before .before .limits-at .ensures, ne-eqb _ _ (c .before .if1 .left))))

@@ -10,11 +10,11 @@ unfolding sumOver
 sum-over-spec =
     tie.close
     (tie.spec
-    (λ c. rw (ne-eqb _ 5 (c .if1 .taken)))
+    (λ c. rw (ne-eqb _ _ (c .if1 .taken)))
     (λ c κs. search needs)
     (λ c κs. search needs)
     (λ c κs. search needs)
     (λ c κs. search needs)
     (λ c.
     let q = c .before in
-    rw (c .sum-within .ensures, q .quantity-at3 .ensures, q .before .quantity-at2 .ensures, q .before .before .quantity-at .ensures, eq-eqb _ 5 (q .before .before .before .if1 .left))))
+    rw (c .sum-within .ensures, q .quantity-at3 .ensures, q .before .quantity-at2 .ensures, q .before .before .quantity-at .ensures, eq-eqb _ _ (q .before .before .before .if1 .left))))
