@@ -1,17 +1,17 @@
 -- Laws of numbers in bytes, each over the width.
 -- Bytes to a number: `numberOf-halves`, `numberAt-halves`, `numberAt-one`, `numberOf-small`, `numberAt-small`.
 -- A number to bytes: `length-bytesOf`, `bytesOf-low`, `bytesOf-halves`.
--- There and back: `numberOf-bytesOf`, `bytesOf-numberOf`.
+-- There and back: `numberOf-bytesOf`, `bytesOf-numberOf`, `bytesOf-numberAt`.
 -- Writes in a list of bytes are in `Splice`.
 use mathlib.Core.Path.{_≡_, refl, sym, ap, _∙_}
 use mathlib.Core.List.{List, [], _∷_, _++_}
 use Prim.Native.Nat.{ℕ, zero, suc, _+_, _*_, _/_, _%_, _^_, _≤_, _<_}
-use native.Mathlib.Nat.{zero-add, suc-add, one-mul, pow-zero, pow-suc, pow-succ', one-le-pow, mod-one, div-one, mod-lt, mod-eq-of-lt, div-eq-of-lt, div-div-eq-div-mul}
+use native.Mathlib.Nat.{le-refl, zero-add, suc-add, one-mul, pow-zero, pow-suc, pow-succ', one-le-pow, mod-one, div-one, mod-lt, mod-eq-of-lt, div-eq-of-lt, div-div-eq-div-mul}
 use native.Mathlib.Omega.{arith}
 use lib.Arith.{digits-div, digits-mod, mod-mul}
 use lib.Dec.{lit≤, lit<}
-use lib.ListN.{length, take, drop, getD}
-use lib.Seq.{getD-drop, drop-drop, take-nil, drop-nil}
+use lib.ListN.{length, take, drop, getD, length-drop}
+use lib.Seq.{getD-drop, drop-drop, take-nil, drop-nil, take-length}
 use Rattle.binary64.specs.Bytes.{bytesOf, numberOf, numberAt}
 
 power-pos : (w : ℕ) → 0 < 256 ^ w
@@ -22,7 +22,7 @@ power-pos w = one-le-pow w 256 (lit≤ tt)
 -- the first w bytes, and the v behind them
 pub numberOf-halves : (l : List ℕ) (w v : ℕ) → numberOf (take (w + v) l) ≡ numberOf (take w l) + 256 ^ w * numberOf (take v (drop w l))
 unfolding numberOf
-numberOf-halves l zero v = rw (zero-add, pow-zero, one-mul, zero-add)
+numberOf-halves l zero v = rw (zero-add v, pow-zero, one-mul, zero-add)
 numberOf-halves [] (suc w) v =
     let z : 256 ^ suc w * numberOf (take v []) ≡ 256 ^ suc w * 0 = ap (λ (l : List ℕ). 256 ^ suc w * numberOf l) (take-nil v) in
     rw suc-add (omega arith)
@@ -91,11 +91,19 @@ unfolding numberOf bytesOf
 numberOf-bytesOf zero x = rw (pow-zero, mod-one)
 numberOf-bytesOf (suc w) x = omega (arith, low-digits w x, numberOf-bytesOf w (x / 256))
 
-pub bytesOf-numberOf : (l : List ℕ) → ((i : ℕ) → getD l i 0 < 256) → bytesOf (length l) (numberOf l) ≡ l
+first-bytes : (l : List ℕ) (w : ℕ) → ((i : ℕ) → getD l i 0 < 256) → w ≤ length l → bytesOf w (numberOf (take w l)) ≡ take w l
 unfolding numberOf bytesOf
-bytesOf-numberOf [] h = refl
-bytesOf-numberOf (b ∷ l) h =
+first-bytes l zero h k = refl
+first-bytes [] (suc w) h k = absurd (omega arith)
+first-bytes (b ∷ l) (suc w) h k =
     let s : b < 256 = h zero in
-    let r : (b + 256 * numberOf l) % 256 ≡ b = omega arith in
-    let q : (b + 256 * numberOf l) / 256 ≡ numberOf l = omega arith in
-    rw (r, q) (ap (λ (m : List ℕ). b ∷ m) (bytesOf-numberOf l (λ i. h (suc i))))
+    let r : (b + 256 * numberOf (take w l)) % 256 ≡ b = omega arith in
+    let q : (b + 256 * numberOf (take w l)) / 256 ≡ numberOf (take w l) = omega arith in
+    rw (r, q) (ap (λ (m : List ℕ). b ∷ m) (first-bytes l w (λ i. h (suc i)) (omega arith)))
+
+pub bytesOf-numberOf : (l : List ℕ) → ((i : ℕ) → getD l i 0 < 256) → bytesOf (length l) (numberOf l) ≡ l
+bytesOf-numberOf l h = rw (take-length l) at (first-bytes l (length l) h (le-refl (length l)))
+
+pub bytesOf-numberAt : (l : List ℕ) (at w : ℕ) → ((i : ℕ) → getD l i 0 < 256) → at + w ≤ length l → bytesOf w (numberAt l at w) ≡ take w (drop at l)
+unfolding numberAt
+bytesOf-numberAt l at w h k = first-bytes (drop at l) w (λ i. rw getD-drop (h (at + i))) (rw length-drop (omega arith))

@@ -1,15 +1,16 @@
 -- Laws of `splice`, the one form in which a write is stated: `splice-nil`, `length-splice`, `splice-splice`, `splice-join`,
--- `splice-read` (what was written is read back), `put-one` (one byte stored), `put-halves` (a number written by halves).
+-- `splice-read` (what was written is read back), `put-one` (one byte stored), `put-halves` (a number written by halves),
+-- `Copied` with `copied-none`, `copied-more`, `copied-all`, and `copied-rest` (bytes copied, some at a time).
 -- Laws of the bytes themselves are in `Numbers`.
 use mathlib.Core.Path.{_≡_, refl, sym, ap, _∙_}
 use mathlib.Core.List.{List, [], _∷_, _++_, append-assoc, append-nil}
-use Prim.Native.Nat.{ℕ, zero, suc, _+_, _/_, _%_, _^_, _≤_, _<_}
+use Prim.Native.Nat.{ℕ, zero, suc, _+_, _-_, _/_, _%_, _^_, _≤_, _<_}
 use native.Mathlib.Nat.{add-zero, add-suc, suc-add, mod-eq-of-lt}
 use native.Mathlib.Omega.{arith}
-use lib.ListN.{length, take, drop, set, length-append, take-append-drop}
-use lib.Seq.{sets, sets-eq, length-sets, length-take-le, take-append-seam, drop-at}
-use Rattle.binary64.specs.Bytes.{bytesOf, splice}
-use Rattle.binary64.proofs.Numbers.{length-bytesOf, bytesOf-halves}
+use lib.ListN.{length, take, drop, getD, set, length-append, length-drop, take-append-drop}
+use lib.Seq.{sets, sets-eq, length-sets, length-take-le, take-all, take-append-seam, take-add, drop-at}
+use Rattle.binary64.specs.Bytes.{bytesOf, numberAt, splice}
+use Rattle.binary64.proofs.Numbers.{length-bytesOf, bytesOf-halves, bytesOf-numberAt}
 
 -- `splice` is the library's `sets`, a store for each place
 as-stores : (l : List ℕ) (at : ℕ) (vs : List ℕ) → at + length vs ≤ length l → sets l at vs ≡ splice l at vs
@@ -60,3 +61,40 @@ put-halves a at w v x h e f =
     let p : length low ≡ w = length-bytesOf w (x % 256 ^ w) in
     let q : length high ≡ v = length-bytesOf v (x / 256 ^ w) in
     rw (bytesOf-halves w v x) (splice-join a at (at + w) low high e f (rw p) (rw (p, q) h))
+
+-- the first i bytes of s are copied into a at their place, which made b
+pub record Copied (a s b : List ℕ) (at i : ℕ) : Type 0 where
+  pub fits : at + length s ≤ length a
+  pub bytes : (j : ℕ) → getD s j 0 < 256
+  pub within : i ≤ length s
+  pub long : length b ≡ length a
+  pub same : b ≡ splice a at (take i s)
+
+pub copied-none : (a s : List ℕ) (at : ℕ) → at + length s ≤ length a → ((j : ℕ) → getD s j 0 < 256) → Copied a s a at 0
+copied-none a s at h d = record { fits = h; bytes = d; within = omega arith; long = refl; same = sym (splice-nil a at) }
+
+-- the w bytes behind them, read and written as a number x
+pub copied-more : {a s b c : List ℕ} {at i x : ℕ} (w : ℕ) → Copied a s b at i → i + w ≤ length s → x ≡ numberAt s i w → c ≡ splice b (at + i) (bytesOf w x) → Copied a s c at (i + w)
+copied-more {a} {s} {b} {c} {at} {i} {x} w v h r f =
+    let p : length (take i s) ≡ i = length-take-le i s (v .within) in
+    let q : length (bytesOf w x) ≡ w = length-bytesOf w x in
+    let g : bytesOf w x ≡ take w (drop i s) = ap (bytesOf w) r ∙ bytesOf-numberAt s i w (v .bytes) h in
+    let e : c ≡ splice a at (take i s ++ bytesOf w x) = splice-join a at (at + i) (take i s) (bytesOf w x) (v .same) f (rw p) (rw (p, q) (omega arith)) in
+    record {
+      fits = v .fits;
+      bytes = v .bytes;
+      within = h;
+      long = ap length f ∙ length-splice b (at + i) (bytesOf w x) (rw q (omega arith)) ∙ v .long;
+      same = rw (take-add, ← g) e;
+    }
+
+pub copied-all : {a s b : List ℕ} {at i : ℕ} → Copied a s b at i → length s ≤ i → b ≡ splice a at s
+copied-all {a} {s} {b} {at} {i} v h = v .same ∙ ap (splice a at) (take-all i s h)
+
+-- the first n bytes of s are copied, and the others behind them
+pub copied-rest : (a s : List ℕ) {b c : List ℕ} (at n : ℕ) → at + length s ≤ length a → n ≤ length s
+    → b ≡ splice a at (take n s) → c ≡ splice b (at + n) (take (length s - n) (drop n s)) → c ≡ splice a at s
+copied-rest a s at n h k e f =
+    let p : length (take n s) ≡ n = length-take-le n s k in
+    let f′ = rw (take-all (length s - n) (drop n s) (rw length-drop (omega arith))) at f in
+    rw (take-append-drop n s) at (splice-join a at (at + n) (take n s) (drop n s) e f′ (rw p) (rw (p, length-drop) (omega arith)))

@@ -1,8 +1,8 @@
 // Little-endian numbers in a slice of bytes: read, and written in their place. By halves, so that the compiler makes
-// one load or one store of each.
+// one load or one store of each. Bytes as they are, copied to their place by numbers of 8.
 ghost use mathlib.Core.Path.{_≡_};
 ghost use Prim.Native.Nat.{_+_, _≤_};
-ghost use lib.ListN.{length};
+ghost use lib.ListN.{length, take};
 ghost use Rattle.binary64.specs.Bytes.{bytesOf, numberAt, splice};
 
 pub fn u8_at(b: &[u8], at: usize) -> u8
@@ -62,4 +62,38 @@ pub fn put_u64(b: &mut [u8], at: usize, x: u64)
 {
     put_u32(b, at, (x % 4294967296) as u32);
     put_u32(b, at + 4, (x / 4294967296) as u32);
+}
+
+// Writes the bytes of s from `at` on, by numbers of 8 bytes; returns how many it wrote, all but the last few.
+fn put_words(b: &mut [u8], at: usize, s: &[u8]) -> usize
+    requires { ⌜ at + length (now s) ≤ length (now b) ⌝ }
+    ensures { λ r. ⌜ (now (b .exit) ≡ splice (now (b .entry)) at (take r (now (s .entry)))) × (r ≤ length (now (s .entry))) ⌝ }
+{
+    let mut i = 0;
+    while 8 <= s.len() - i {
+        put_u64(b, at + i, u64_at(s, i));
+        i += 8;
+    }
+    i
+}
+
+// Writes the bytes of s from `at` on, one by one.
+fn put_singly(b: &mut [u8], at: usize, s: &[u8])
+    requires { ⌜ at + length (now s) ≤ length (now b) ⌝ }
+    ensures { λ _. ⌜ now (b .exit) ≡ splice (now (b .entry)) at (now (s .entry)) ⌝ }
+{
+    let mut i = 0;
+    while i < s.len() {
+        put_u8(b, at + i, u8_at(s, i));
+        i += 1;
+    }
+}
+
+// Writes the bytes of s from `at` on.
+pub fn put_bytes(b: &mut [u8], at: usize, s: &[u8])
+    requires { ⌜ at + length (now s) ≤ length (now b) ⌝ }
+    ensures { λ _. ⌜ now (b .exit) ≡ splice (now (b .entry)) at (now (s .entry)) ⌝ }
+{
+    let n = put_words(b, at, s);
+    put_singly(b, at + n, &s[n..]);
 }

@@ -96,7 +96,7 @@ pub fn formulation(
     ensures { λ r. ⌜ (r .water ≡ roundedUp (micrograms (toWater (Formulation tonnage source water air soil) head))) × (r .air ≡ roundedUp (micrograms (toAir (Formulation tonnage source water air soil) head))) × (r .soil ≡ roundedUp (micrograms (toSoil (Formulation tonnage source water air soil) head))) ⌝ }
 {
     let mut limbs = [0u32; 8];
-    let n = natural::grow(&mut limbs, 0, 1, 1000000000000);
+    let n = chain::products::grow(&mut limbs, 0, 1, 1000000000000);
     let quantities = [tonnage, source];
     let shared = multiply(&mut limbs, n, 0, &quantities);
     Emissions {

@@ -9,7 +9,7 @@ ghost use Rattle.emission.specs.Equations.{quantity, less, chain};
 ghost use Rattle.emission.specs.Ranges.{UpTo, Each, largest};
 use binary64::pattern::parts_of;
 use binary64::pattern::pattern_of;
-use natural::Term;
+use chain::starts::Term;
 
 // A quantity as significand / 2^depth.
 pub struct Dyadic {
@@ -36,7 +36,7 @@ fn times(limbs: &mut [u32], n: usize, f: u64) -> usize
     if f == 1 {
         return n;
     }
-    natural::grow(limbs, n, f, 0)
+    chain::products::grow(limbs, n, f, 0)
 }
 
 // The number in the first `count` limbs, over 2^depth.
@@ -69,7 +69,7 @@ fn finish(limbs: &mut [u32], n: usize, depth: usize, quantities: &[f64], d: u32)
 {
     let p = multiply(limbs, n, depth, &quantities[..]);
     let m = p.count;
-    natural::round_up(&mut limbs[..m], p.depth, d)
+    chain::rounding::round_up(&mut limbs[..m], p.depth, d)
 }
 
 // k / d times the quantities, rounded up.
@@ -78,7 +78,7 @@ pub fn product_up(quantities: &[f64], k: u64, d: u32) -> u64
     ensures { λ r. ⌜ r ≡ min 18446744073709551615 (roundedUp ((k over d) · chain (map quantity (now (quantities .entry))))) ⌝ }
 {
     let mut limbs = [0u32; 12];
-    let n = natural::grow(&mut limbs, 0, 1, k);
+    let n = chain::products::grow(&mut limbs, 0, 1, k);
     finish(&mut limbs, n, 0, &quantities[..], d)
 }
 
@@ -89,7 +89,7 @@ pub fn remainder_up(x: f64, quantities: &[f64], k: u64, d: u32) -> u64
 {
     let q = dyadic_of(x);
     let mut limbs = [0u32; 46];
-    let n = natural::complement(&mut limbs, q.depth, q.significand);
+    let n = chain::starts::complement(&mut limbs, q.depth, q.significand);
     let m = times(&mut limbs, n, k);
     finish(&mut limbs, m, q.depth, &quantities[..], d)
 }
@@ -119,7 +119,7 @@ pub fn sum_up(a: f64, b: f64, quantities: &[f64], k: u64, d: u32) -> u64
         shift: depth - q.depth,
     };
     let mut limbs = [0u32; 44];
-    let n = natural::sum(&mut limbs, first, second);
+    let n = chain::starts::sum(&mut limbs, first, second);
     let m = times(&mut limbs, n, k);
     finish(&mut limbs, m, depth, &quantities[..], d)
 }

@@ -1,91 +1,86 @@
--- Laws on the loops from the lowest limb up, with a carry c or a borrow b into limb i; l is the list so far, l₀ the list at entry.
---   drop-again                        what is left to do is as at entry
---   times-again, add-again            a turn of `times_add` and `add_carry`, and of `add_same`
---   borrow-again, subtract-again      a turn of `subtract_borrow`, and of `subtract_same`
---   at-end, add-end, subtract-end     the loop ran to the end
---   carry-stopped, borrow-stopped     the loop stopped with nothing to carry
---   above, weight-above               a call worked on the limbs from n on
---   add-parts, subtract-parts         a call worked on the limbs below n, and another on those from n on
-use mathlib.Core.Path.{_≡_, sym, ap, _∙_}
+-- Laws on the loops from the lowest limb up; l is the list so far, l₀ the list at entry.
+--   Worked: Carried, Borrowed              the limbs below i are worked on, with a carry into limb i, or a borrow from it
+--   start, carried-again, borrowed-again   before the loop, and after a turn that adds y to limb i or takes it away
+--   carried-end, borrowed-end, -stopped    at the end, and where nothing is borrowed any more
+--   carried-one                            what is carried out where 1 was added
+--   above, weight-above                    a call worked on the limbs from n on
+--   add-parts, subtract-parts              a call worked on the limbs below n, and another on those from n on
+use mathlib.Core.Path.{_≡_, refl, sym, ap, _∙_}
 use mathlib.Core.List.{List, _++_}
-use Prim.Native.Nat.{ℕ, _+_, _-_, _*_, _^_, _≤_, _<_}
+use Prim.Native.Nat.{ℕ, zero, suc, _+_, _-_, _*_, _^_, _≤_, _<_}
 use native.Mathlib.Omega.{arith}
-use lib.ListN.{length, take, drop, getD, set, length-drop}
-use lib.Seq.{getD-drop, drop-drop, drop-set-lt, take-all, length-front, length-take-le}
+use lib.ListN.{length, take, drop, getD, set, length-drop, length-set}
+use lib.Seq.{getD-drop, drop-drop, drop-set-lt, take-all, take-length, length-front, length-take-le}
 use Rattle.natural.specs.Value.{value}
-use Rattle.natural.proofs.Value.{weight-next, weight-add, value-next, value-store, value-same, value-split, value-front, value-back, part-from}
+use Rattle.natural.proofs.Value.{weight-next, weight-add, value-next, value-store, value-same, value-split, value-front, value-back, part-from, value-below}
+
+-- the limbs below i are worked on, those from i on are as at entry: with s the former are m times those at entry, and t
+pub record Worked (l l₀ : List ℕ) (m i s t : ℕ) : Type 0 where
+  pub within : i ≤ length l
+  pub long : length l ≡ length l₀
+  pub rest : drop i l ≡ drop i l₀
+  pub sum : value (take i l) + s ≡ value (take i l₀) * m + t
+
+-- with a carry c into limb i
+abbrev pub Carried : List ℕ → List ℕ → ℕ → ℕ → ℕ → ℕ → Type 0
+Carried l l₀ m i c t = Worked l l₀ m i (c * 2 ^ (32 * i)) t
+
+-- with a borrow b from limb i
+abbrev pub Borrowed : List ℕ → List ℕ → ℕ → ℕ → ℕ → Type 0
+Borrowed l l₀ i b s = Worked l l₀ 1 i s (b * 2 ^ (32 * i))
+
+pub start : (l : List ℕ) (m s t : ℕ) → s ≡ t → Worked l l m 0 s t
+unfolding value
+start l m s t e = record { within = omega arith; long = refl; rest = refl; sum = omega arith }
 
 same-at : (l l₀ : List ℕ) (i : ℕ) → drop i l ≡ drop i l₀ → getD l i 0 ≡ getD l₀ i 0
 same-at l l₀ i e = ap (λ (n : ℕ). getD l n 0) (omega arith) ∙ sym (getD-drop i l 0 0) ∙ ap (λ (z : List ℕ). getD z 0 0) e ∙ getD-drop i l₀ 0 0 ∙ ap (λ (n : ℕ). getD l₀ n 0) (omega arith)
 
-pub drop-again : (l l₀ : List ℕ) (i x : ℕ) → drop i l ≡ drop i l₀ → drop (i + 1) (set l i x) ≡ drop (i + 1) l₀
+drop-again : (l l₀ : List ℕ) (i x : ℕ) → drop i l ≡ drop i l₀ → drop (i + 1) (set l i x) ≡ drop (i + 1) l₀
 drop-again l l₀ i x e = drop-set-lt (i + 1) l i x (omega arith) ∙ sym (drop-drop 1 i l) ∙ ap (λ (z : List ℕ). drop 1 z) e ∙ drop-drop 1 i l₀
 
--- a turn, by what the limbs below i and limb i are short of (A, a) and over (D, d)
-turn : (l l₀ : List ℕ) (m i x a d A D : ℕ) → i < length l → length l ≡ length l₀ → drop i l ≡ drop i l₀ → value (take i l) + A ≡ value (take i l₀) * m + D → x + a ≡ getD l i 0 * m + d
-    → value (take (i + 1) (set l i x)) + (A + a * 2 ^ (32 * i)) ≡ value (take (i + 1) l₀) * m + (D + d * 2 ^ (32 * i))
-turn l l₀ m i x a d A D h len e inv s =
-    let b : value (take (i + 1) (set l i x)) ≡ value (take i l) + x * 2 ^ (32 * i) = value-store l i x h in
-    let g : value (take (i + 1) l₀) * m ≡ (value (take i l₀) + getD l₀ i 0 * 2 ^ (32 * i)) * m = ap (λ (n : ℕ). n * m) (value-next l₀ i (omega arith)) in
-    let w : (x + a) * 2 ^ (32 * i) ≡ (getD l₀ i 0 * m + d) * 2 ^ (32 * i) = ap (λ (n : ℕ). n * 2 ^ (32 * i)) (s ∙ ap (λ (n : ℕ). n * m + d) (same-at l l₀ i e)) in
-    omega arith
+-- limb i becomes x, with a it is m times what it was, and d
+again : {l l₀ : List ℕ} {m i s t : ℕ} (x a d s′ t′ : ℕ) → Worked l l₀ m i s t → i < length l → x + a ≡ getD l i 0 * m + d → s + a * 2 ^ (32 * i) + t′ ≡ s′ + (t + d * 2 ^ (32 * i))
+    → Worked (set l i x) l₀ m (i + 1) s′ t′
+again {l} {l₀} {m} {i} x a d s′ t′ v h e f =
+    let p : value (take (i + 1) (set l i x)) ≡ value (take i l) + x * 2 ^ (32 * i) = value-store l i x h in
+    let q : value (take (i + 1) l₀) * m ≡ (value (take i l₀) + getD l₀ i 0 * 2 ^ (32 * i)) * m = ap (λ (n : ℕ). n * m) (value-next l₀ i (omega arith)) in
+    let w : (x + a) * 2 ^ (32 * i) ≡ (getD l₀ i 0 * m + d) * 2 ^ (32 * i) = ap (λ (n : ℕ). n * 2 ^ (32 * i)) (e ∙ ap (λ (n : ℕ). n * m + d) (same-at l l₀ i (v .rest))) in
+    record { within = omega (arith, length-set l i x); long = length-set l i x ∙ v .long; rest = drop-again l l₀ i x (v .rest); sum = omega arith }
 
-pub times-again : (l l₀ : List ℕ) (m P c i x q : ℕ) → i < length l → length l ≡ length l₀ → drop i l ≡ drop i l₀
-    → value (take i l) + c * 2 ^ (32 * i) ≡ value (take i l₀) * m + P → x + 4294967296 * q ≡ getD l i 0 * m + c
-    → value (take (i + 1) (set l i x)) + q * 2 ^ (32 * (i + 1)) ≡ value (take (i + 1) l₀) * m + P
-times-again l l₀ m P c i x q h len e inv s = omega (arith, weight-next q i, turn l l₀ m i x (4294967296 * q) c (c * 2 ^ (32 * i)) P h len e inv s)
+pub carried-again : {l l₀ : List ℕ} {m i t : ℕ} (c x q y t′ : ℕ) → Carried l l₀ m i c t → i < length l → x + 4294967296 * q ≡ getD l i 0 * m + (y + c) → t′ ≡ t + y * 2 ^ (32 * i)
+    → Carried (set l i x) l₀ m (i + 1) q t′
+carried-again {i = i} c x q y t′ v h e f = again x (4294967296 * q) (y + c) (q * 2 ^ (32 * (i + 1))) t′ v h e (omega (arith, weight-next q i))
 
-pub add-again : (l l₀ o : List ℕ) (c i x q : ℕ) → i < length l → length l ≡ length l₀ → length o ≡ length l₀ → drop i l ≡ drop i l₀
-    → value (take i l) + c * 2 ^ (32 * i) ≡ value (take i l₀) + value (take i o) → x + 4294967296 * q ≡ getD l i 0 + getD o i 0 + c
-    → value (take (i + 1) (set l i x)) + q * 2 ^ (32 * (i + 1)) ≡ value (take (i + 1) l₀) + value (take (i + 1) o)
-add-again l l₀ o c i x q h len len′ e inv s =
-    omega (arith, weight-next q i, value-next o i (omega arith), turn l l₀ 1 i x (4294967296 * q) (getD o i 0 + c) (c * 2 ^ (32 * i)) (value (take i o)) h len e (inv ∙ omega arith) (s ∙ omega arith))
-
--- y is taken from limb i
-pub borrow-again : (l l₀ : List ℕ) (P b i y x q : ℕ) → i < length l → length l ≡ length l₀ → drop i l ≡ drop i l₀
-    → value (take i l) + P ≡ value (take i l₀) + b * 2 ^ (32 * i) → x + y + b ≡ getD l i 0 + 4294967296 * q
-    → value (take (i + 1) (set l i x)) + (P + y * 2 ^ (32 * i)) ≡ value (take (i + 1) l₀) + q * 2 ^ (32 * (i + 1))
-borrow-again l l₀ P b i y x q h len e inv s =
-    let s′ : x + (y + b) ≡ getD l i 0 * 1 + 4294967296 * q = omega arith in
-    omega (arith, weight-next q i, turn l l₀ 1 i x (y + b) (4294967296 * q) P (b * 2 ^ (32 * i)) h len e (inv ∙ omega arith) s′)
-
-pub subtract-again : (l l₀ o : List ℕ) (b i x q : ℕ) → i < length l → length l ≡ length l₀ → length o ≡ length l₀ → drop i l ≡ drop i l₀
-    → value (take i l) + value (take i o) ≡ value (take i l₀) + b * 2 ^ (32 * i) → x + getD o i 0 + b ≡ getD l i 0 + 4294967296 * q
-    → value (take (i + 1) (set l i x)) + value (take (i + 1) o) ≡ value (take (i + 1) l₀) + q * 2 ^ (32 * (i + 1))
-subtract-again l l₀ o b i x q h len len′ e inv s =
-    ap (λ (n : ℕ). value (take (i + 1) (set l i x)) + n) (value-next o i (omega arith)) ∙ borrow-again l l₀ (value (take i o)) b i (getD o i 0) x q h len e inv s
+pub borrowed-again : {l l₀ : List ℕ} {i s : ℕ} (b x q y s′ : ℕ) → Borrowed l l₀ i b s → i < length l → x + y + b ≡ getD l i 0 + 4294967296 * q → s′ ≡ s + y * 2 ^ (32 * i)
+    → Borrowed (set l i x) l₀ (i + 1) q s′
+borrowed-again {i = i} b x q y s′ v h e f = again x (y + b) (4294967296 * q) s′ (q * 2 ^ (32 * (i + 1))) v h (omega arith) (omega (arith, weight-next q i))
 
 -- what holds of the limbs below i holds of all of them where i is the length
-pub at-end : (P : List ℕ → List ℕ → ℕ → Type 0) (l l₀ : List ℕ) (i : ℕ) → i ≤ length l → length l ≤ i → length l ≡ length l₀ → P (take i l) (take i l₀) i → P l l₀ (length l₀)
-at-end P l l₀ i h n len p =
+whole : {l l₀ : List ℕ} {m i s t : ℕ} → Worked l l₀ m i s t → length l ≤ i → (i ≡ length l₀) × (value l + s ≡ value l₀ * m + t)
+whole {l} {l₀} {m} {i} {s} {t} v h =
     let e : i ≡ length l₀ = omega arith in
-    rw (← e, ← take-all i l n, ← take-all i l₀ (omega arith)) p
+    (e, rw (take-all i l h, take-all i l₀ (omega arith)) at (v .sum))
 
-pub add-end : (l l₀ o : List ℕ) (c i : ℕ) → i ≤ length l → length l ≤ i → length l ≡ length l₀ → length o ≡ length l₀
-    → value (take i l) + c * 2 ^ (32 * i) ≡ value (take i l₀) + value (take i o) → value l + c * 2 ^ (32 * length l₀) ≡ value l₀ + value o
-add-end l l₀ o c i h n len len′ inv =
-    at-end (λ u v k. value u + c * 2 ^ (32 * k) ≡ value v + value o) l l₀ i h n len
-    (inv ∙ ap (λ (z : List ℕ). value (take i l₀) + value z) (take-all i o (omega arith)))
+pub carried-end : {l l₀ : List ℕ} {m i t : ℕ} (c : ℕ) → Carried l l₀ m i c t → length l ≤ i → value l + c * 2 ^ (32 * length l₀) ≡ value l₀ * m + t
+carried-end {l} {l₀} c v h = let e = whole v h in rw (e .0) at (e .1)
 
-pub subtract-end : (l l₀ o : List ℕ) (b i : ℕ) → i ≤ length l → length l ≤ i → length l ≡ length l₀ → length o ≡ length l₀
-    → value (take i l) + value (take i o) ≡ value (take i l₀) + b * 2 ^ (32 * i) → value l + value o ≡ value l₀ + b * 2 ^ (32 * length l₀)
-subtract-end l l₀ o b i h n len len′ inv =
-    at-end (λ u v k. value u + value o ≡ value v + b * 2 ^ (32 * k)) l l₀ i h n len
-    (ap (λ (z : List ℕ). value (take i l) + value z) (sym (take-all i o (omega arith))) ∙ inv)
+pub borrowed-end : {l l₀ : List ℕ} {i s : ℕ} (b : ℕ) → Borrowed l l₀ i b s → length l ≤ i → value l + s ≡ value l₀ + b * 2 ^ (32 * length l₀)
+borrowed-end b v h = let e = whole v h in let f = rw (e .0) at (e .1) in omega arith
 
-pub carry-stopped : (l l₀ : List ℕ) (P c i : ℕ) → c ≡ 0 → i ≤ length l → length l ≡ length l₀ → drop i l ≡ drop i l₀
-    → value (take i l) + c * 2 ^ (32 * i) ≡ value (take i l₀) * 1 + P → value l + 0 * 2 ^ (32 * length l₀) ≡ value l₀ + P
-carry-stopped l l₀ P c i z h len e inv =
-    let s : c * 2 ^ (32 * i) ≡ 0 * 2 ^ (32 * i) = ap (λ (n : ℕ). n * 2 ^ (32 * i)) z in
-    let v : value l + value (take i l₀) ≡ value l₀ + value (take i l) = value-same l l₀ i h len e in
-    omega arith
+pub borrowed-stopped : {l l₀ : List ℕ} {i s : ℕ} (b : ℕ) → Borrowed l l₀ i b s → b ≡ 0 → value l + s ≡ value l₀ + 0 * 2 ^ (32 * length l₀)
+borrowed-stopped {l} {l₀} {i} b v z =
+    let f : b * 2 ^ (32 * i) ≡ 0 * 2 ^ (32 * i) = ap (λ (n : ℕ). n * 2 ^ (32 * i)) z in
+    omega (arith, value-same l l₀ i (v .within) (v .long) (v .rest))
 
-pub borrow-stopped : (l l₀ : List ℕ) (P b i : ℕ) → b ≡ 0 → i ≤ length l → length l ≡ length l₀ → drop i l ≡ drop i l₀
-    → value (take i l) + P ≡ value (take i l₀) + b * 2 ^ (32 * i) → value l + P ≡ value l₀ + 0 * 2 ^ (32 * length l₀)
-borrow-stopped l l₀ P b i z h len e inv =
-    let s : b * 2 ^ (32 * i) ≡ 0 * 2 ^ (32 * i) = ap (λ (n : ℕ). n * 2 ^ (32 * i)) z in
-    let v : value l + value (take i l₀) ≡ value l₀ + value (take i l) = value-same l l₀ i h len e in
-    omega arith
+-- 1 is carried out at the most, where 1 was added
+pub carried-one : (l : List ℕ) (v r : ℕ) → ((i : ℕ) → getD l i 0 < 4294967296) → v + r * 2 ^ (32 * length l) ≡ value l * 1 + 1 → r ≤ 1
+carried-one l v r h e = go r (2 ^ (32 * length l)) e (rw (take-length l) at (value-below l (length l) h))
+  where
+    go : (r W : ℕ) → v + r * W ≡ value l * 1 + 1 → value l < W → r ≤ 1
+    go zero W e h = omega arith
+    go (suc zero) W e h = omega arith
+    go (suc (suc r)) W e h = omega arith
 
 -- a call changed the part of a slice from n on to f; s and t as its contract has them
 pub above : (l f : List ℕ) (n s t : ℕ) → n ≤ length l → value f + s ≡ value (take (length l - n) (drop n l)) + t

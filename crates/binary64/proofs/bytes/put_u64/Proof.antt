@@ -9,12 +9,7 @@ pub put-u64-spec : {M : Type 1} → statement M
 put-u64-spec =
     tie.close
     (tie.spec
-    (λ c. search needs)
-    (λ c κs. search needs)
-    (λ c. search needs)
-    (λ c. search needs)
-    (λ c κs. search needs)
-    (λ c. search needs)
+    (λ c. search needs) (λ c κs. search needs) (λ c. search needs) (λ c. search needs) (λ c κs. search needs) (λ c. search needs)
     (λ c.
     let s = c .before .before in
     let f = s .before .before .before .before in
