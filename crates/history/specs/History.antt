@@ -5,7 +5,7 @@ use Prim.Native.Nat.{ℕ, _<_}
 use denote.Ref.{now}
 use lib.ListN.{length, getD, take}
 use Rattle.scenario.specs.Case.{refusalOf}
-use Rattle.emission.specs.Ratio.{_over_}
+use Rattle.product.specs.Ratio.{_over_}
 use Rattle.emission.specs.Figures.{exactValues, figuresOf, WithinBounds, margin}
 use Rattle.records.specs.Layout.{Line, archiveOf, usedLength, recordSize, edition}
 use Rattle.archive.specs.Answers.{Answer, emptied, shown, ofEmptied, ofFiling, ofHighest, handed}

@@ -3,7 +3,7 @@
 --   ceiling-not-below, ceiling-less-than-one-above  what it is: no quotient is above it, and it is less than one above the quotient
 --   ceiling-at-most, ceiling-zero                   a bound on it; when it is 0
 --   ceiling-monotone, ceiling-same                  of two fractions, by multiplying across
--- What `round_up` does is in Rounding.
+-- What `round_up` does is in crate chain, RoundedUp.
 use mathlib.Core.Path.{_≡_, sym, ap, _∙_}
 use Prim.Native.Nat.{ℕ, zero, suc, _+_, _-_, _*_, _/_, _%_, _≤_, _<_, min}
 use native.Mathlib.Nat.{div-add-mod', mod-lt, le-antisymm, le-of-eq, le-of-mul-le-mul-right, lt-of-mul-lt-mul-right, mul-le-mul-right}

@@ -1,9 +1,7 @@
-pub mod Limb
+-- Laws that this crate's proofs and the crates above cite.
+pub mod Steps
 pub mod Value
 pub mod Carry
 pub mod Division
-pub mod Reading
-pub mod Product
-pub mod Start
+pub mod Held
 pub mod Ceiling
-pub mod Rounding

@@ -6,7 +6,7 @@
 --   part-from, value-front, value-back               a part of a slice, and the slice after a call changed that part
 --   store-two, store-three                           a number of two limbs, or a limb and two, stored
 --   value-below, value-small                         sizes
--- What a loop does to a value is in Carry, Division and Reading.
+-- What a loop does to a value is in Carry, Division and Held.
 use mathlib.Core.Path.{_≡_, refl, sym, ap, _∙_}
 use mathlib.Core.List.{List, [], _∷_, _++_}
 use Prim.Native.Nat.{ℕ, zero, suc, _+_, _-_, _*_, _/_, _%_, _^_, _≤_, _<_}

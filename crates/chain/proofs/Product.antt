@@ -1,0 +1,48 @@
+-- Laws on products.
+--   grow-none, grow-one, grow-two `grow`: the carry takes no limb, one or two
+--   product-take, product-again   one more factor
+use mathlib.Core.Path.{_≡_, sym, ap, _∙_}
+use mathlib.Core.List.{List, [], _∷_, _++_}
+use Prim.Native.Nat.{ℕ, zero, suc, _+_, _*_, _/_, _%_, _^_, _≤_, _<_}
+use native.Mathlib.Nat.{mul-assoc, le-of-suc-le-suc}
+use native.Mathlib.Omega.{arith}
+use native.Mathlib.Numerals.{add-one}
+use lib.ListN.{length, take, drop, getD, set}
+use lib.Seq.{length-take-le, length-front}
+use Rattle.natural.specs.Value.{value, productOf}
+use Rattle.natural.proofs.Value.{value-front, value-store, store-two}
+
+-- the first n limbs of l became e, and k is carried out of them
+module _ (l e : List ℕ) (n T k : ℕ) (len : length e ≡ length (take n l)) (inv : value e + k * 2 ^ (32 * length (take n l)) ≡ T) where
+  front : n ≤ length l → value (take n (e ++ drop n l)) + k * 2 ^ (32 * n) ≡ T
+  front h =
+      let a : value (take n (e ++ drop n l)) ≡ value e = value-front l e n h len .0 in
+      let w : k * 2 ^ (32 * length (take n l)) ≡ k * 2 ^ (32 * n) = ap (λ (x : ℕ). k * 2 ^ (32 * x)) (length-take-le n l h) in
+      omega arith
+
+  pub grow-none : n ≤ length l → k ≡ 0 → value (take n (e ++ drop n l)) ≡ T
+  grow-none h z =
+      let w : k * 2 ^ (32 * n) ≡ 0 * 2 ^ (32 * n) = ap (λ (x : ℕ). x * 2 ^ (32 * n)) z in
+      omega (arith, front h)
+
+  pub grow-one : (lo : ℕ) → n < length l → lo ≡ k % 4294967296 → k < 4294967296 → value (take (n + 1) (set (e ++ drop n l) n lo)) ≡ T
+  grow-one lo h el hk =
+      let a : value (take (n + 1) (set (e ++ drop n l) n lo)) ≡ value (take n (e ++ drop n l)) + lo * 2 ^ (32 * n) = value-store (e ++ drop n l) n lo (omega (arith, length-front l e n len)) in
+      let w : lo * 2 ^ (32 * n) ≡ k * 2 ^ (32 * n) = ap (λ (x : ℕ). x * 2 ^ (32 * n)) (omega arith) in
+      omega (arith, front (omega arith))
+
+  pub grow-two : (lo hi : ℕ) → n + 2 ≤ length l → lo ≡ k % 4294967296 → hi ≡ k / 4294967296 → value (take (n + 2) (set (set (e ++ drop n l) n lo) (n + 1) hi)) ≡ T
+  grow-two lo hi h el eh = store-two (e ++ drop n l) n k lo hi (omega (arith, length-front l e n len)) el eh ∙ front (omega arith)
+
+pub product-take : (l : List ℕ) (i : ℕ) → i < length l → productOf (take (suc i) l) ≡ productOf (take i l) * getD l i 0
+unfolding productOf
+product-take [] i h = omega arith
+product-take (x ∷ l) zero h = omega arith
+product-take (x ∷ l) (suc i) h = ap (λ (n : ℕ). x * n) (product-take l i (le-of-suc-le-suc h)) ∙ sym (mul-assoc x (productOf (take i l)) (getD l i 0))
+
+-- a turn of `times_all`
+pub product-again : (l : List ℕ) (i u x y : ℕ) → i < length l → y ≡ u * productOf (take i l) → x ≡ y * getD l i 0 + 0 → x ≡ u * productOf (take (i + 1) l)
+product-again l i u x y h ey ex =
+    let p : u * productOf (take (suc i) l) ≡ u * (productOf (take i l) * getD l i 0) = ap (λ (n : ℕ). u * n) (product-take l i h) in
+    let e : y * getD l i 0 ≡ u * productOf (take i l) * getD l i 0 = ap (λ (n : ℕ). n * getD l i 0) ey in
+    rw add-one (omega arith)

@@ -1,0 +1,42 @@
+-- The larger shift says how many limbs are worked on.
+use mathlib.Core.Path.{sym, _∙_}
+use mathlib.Core.List.{_++_}
+use Prim.Native.Nat.{_+_, _/_}
+use borrow.Author.Needs.{needs}
+use native.Mathlib.Omega.{arith}
+use lib.ListN.{drop}
+use lib.Seq.{length-take-le, length-front}
+use Rattle.natural.proofs.Value.{value-front}
+use Rattle.natural.proofs.Held.{use-part}
+use Rattle.chain.proofs.starts.sum.Statement.{statement}
+use Rattle.chain.proofs.starts.sum.Tie as tie
+
+-- the first limbs are as many as were worked on
+aggregate : tie.Need-slice-aggregate-in-use
+aggregate c =
+    let s = c .before .before .before in
+    let m = s .before .before in
+    sym (length-take-le _ _ (omega (arith, length-front (m .before .before .args .limbs .now) (s .lay-sum .last .0) (m .larger .result / 32 + 5) (s .lay-sum .kept .0))))
+
+returns : tie.Need-returns
+returns c =
+    let s = c .before .before .before .before in
+    let m = s .before .before in
+    let l = m .before .before .args .limbs .now in
+    let e = s .lay-sum .last .0 in
+    let n = m .larger .result / 32 + 5 in
+    let k = length-front l e n (s .lay-sum .kept .0) in
+    let u = use-part (e ++ drop n l) n (c .in-use .result) (omega arith) (c .in-use .ensures) in
+    (u .0 ∙ value-front l e n (omega arith) (s .lay-sum .kept .0) .0 ∙ s .lay-sum .ensures, omega arith, u .2)
+
+pub sum-spec : {M : Type 1} → statement M
+sum-spec =
+    tie.close
+    (tie.spec
+    (λ c κs. search needs) (λ c. search needs) (λ c. search needs)
+    (λ c. sym (length-take-le _ _ (omega arith)))
+    (λ c κs. let m = c .before in rw (length-take-le (m .larger .result / 32 + 5) (m .before .before .args .limbs .now) (omega arith)) (omega arith, omega arith))
+    (λ c. search needs)
+    aggregate
+    (λ c κs. search needs) (λ c. search needs)
+    returns)

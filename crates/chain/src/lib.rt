@@ -1,0 +1,20 @@
+// The chain: a wide start times its factors, over 2 ^ k * d, rounded up once.
+// A function that returns a count leaves its number in that many limbs; the limbs above them hold nothing of meaning.
+ghost use mathlib.Core.Path.{_≡_};
+ghost use Prim.Native.Nat.{_+_, _*_, _^_, _≤_, _<_, min};
+ghost use lib.ListN.{length, take};
+ghost use Rattle.natural.specs.Value.{value, productOf};
+ghost use Rattle.natural.specs.Ceiling.{ceiling};
+
+pub mod products;
+pub mod rounding;
+pub mod starts;
+
+// The number in the first `start` limbs times the factors, over 2 ^ k * d, rounded up; the largest u64 where that is larger.
+pub fn chain_up(limbs: &mut [u32], start: usize, factors: &[u64], k: usize, d: u32) -> u64
+    requires { ⌜ (2 * length (now factors) + start ≤ length (now limbs)) × (0 < d) ⌝ }
+    ensures { λ r. ⌜ r ≡ min 18446744073709551615 (ceiling (value (take start (now (limbs .entry))) * productOf (now (factors .entry))) (2 ^ k * d)) ⌝ }
+{
+    let n = products::times_all(limbs, start, factors);
+    rounding::round_up(&mut limbs[..n], k, d)
+}

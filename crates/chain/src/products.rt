@@ -1,0 +1,39 @@
+// Products: the number in the first limbs times a factor, or times all of them.
+ghost use mathlib.Core.Path.{_≡_};
+ghost use Prim.Native.Nat.{_+_, _*_, _≤_};
+ghost use lib.ListN.{length, take};
+ghost use Rattle.natural.specs.Value.{value, productOf};
+use natural::arithmetic::times_add;
+use natural::limb::high;
+use natural::limb::low;
+
+// Multiplies the number in the first n limbs by f and adds `more`; returns how many limbs the result takes, n or up to two more.
+pub fn grow(limbs: &mut [u32], n: usize, f: u64, more: u64) -> usize
+    requires { ⌜ n + 2 ≤ length (now limbs) ⌝ }
+    ensures { λ r. ⌜ (value (take r (now (limbs .exit))) ≡ value (take n (now (limbs .entry))) * f + more) × (n ≤ r) × (r ≤ n + 2) ⌝ }
+{
+    let carry = times_add(&mut limbs[..n], f, more);
+    if carry == 0 {
+        return n;
+    }
+    limbs[n] = low(carry);
+    if carry < 4294967296 {
+        return n + 1;
+    }
+    limbs[n + 1] = high(carry);
+    n + 2
+}
+
+// Multiplies the number in the first `start` limbs by the factors; returns how many limbs the product takes.
+pub fn times_all(limbs: &mut [u32], start: usize, factors: &[u64]) -> usize
+    requires { ⌜ 2 * length (now factors) + start ≤ length (now limbs) ⌝ }
+    ensures { λ r. ⌜ (value (take r (now (limbs .exit))) ≡ value (take start (now (limbs .entry))) * productOf (now (factors .entry))) × (r ≤ start + 2 * length (now (factors .entry))) × (r ≤ length (now (limbs .entry))) ⌝ }
+{
+    let mut n = start;
+    let mut i = 0;
+    while i < factors.len() {
+        n = grow(limbs, n, factors[i], 0);
+        i += 1;
+    }
+    n
+}
