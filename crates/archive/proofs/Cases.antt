@@ -8,12 +8,12 @@ use lib.Dec.{eqb}
 use lib.ListN.{length, getD, length-map}
 use Rattle.scenario.specs.Case.{routeOf, refusalOf}
 use Rattle.scenario.proofs.Passed.{passed}
-use Rattle.emission.specs.Ratio.{Ratio, roundedUp}
+use Rattle.product.specs.Ratio.{Ratio, roundedUp}
 use Rattle.emission.specs.Figures.{exactValues, figuresOf}
 use Rattle.emission.proofs.Accepted.{figures-exact}
+use Rattle.emission.proofs.FigureSize.{figures-fit}
 use Rattle.archive.specs.Archive.{lineFor}
-use Rattle.archive.proofs.FigureSize.{figures-fit}
-use Rattle.archive.proofs.RecordLaws.{Fit, Sized, Storable}
+use Rattle.records.proofs.RecordLaws.{Fit, Sized, Storable}
 
 pub case-size : (c : List ℕ) → refusalOf c ≡ 0 → length c ≡ 64
 case-size c e = passed c e .sixty-four

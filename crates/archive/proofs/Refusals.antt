@@ -1,21 +1,24 @@
 -- Laws of the refusals of this crate's calls. The laws of any list of conditions are scenario's.
--- `compartment-within` (12 does not hold); `accepted-refused` (what stands beside a refusal).
+-- `compartment-within` (12 does not hold); `accepted-refused` (what stands beside a refusal); `full-exactly` (23 of a filing, in plain numbers).
 -- A filing's list begins with the case's own: `behind-case`, `file-refusal-is`, with `fromState` for what follows; `both-zero`, `case-refused`.
--- That a refusal is the first that holds is in `Calls`.
+-- That a refusal is the first that holds is in `history`.
 use mathlib.Core.Path.{_≡_, refl}
-use mathlib.Core.Bool.{false, cond}
+use mathlib.Core.Bool.{false, cond, _||_}
 use mathlib.Core.List.{List, [], _∷_, _++_}
-use Prim.Native.Nat.{ℕ, zero, suc, _≤_}
+use Prim.Native.Nat.{ℕ, zero, suc, _+_, _-_, _≤_}
 use native.Mathlib.Omega.{arith}
-use borrow.Author.Tests.{ltb-false, ne-eqb}
+use borrow.Author.Tests.{ltb-false, eqb-false, le-ltb, ne-eqb}
 use lib.Dec.{ltb, eqb}
 use lib.ListN.{length}
 use Rattle.scenario.specs.Refusal.{Condition, _when_, firstOf}
 use Rattle.scenario.specs.Case.{refusals, refusalOf}
 use Rattle.scenario.proofs.Bools.{neither}
 use Rattle.scenario.proofs.Refusals.{first-of-append, first-of-some}
-use Rattle.archive.specs.Lines.{accepted, held, full, notCompartment}
-use Rattle.archive.specs.Archive.{countAt, broken, linesIn, fileRefusals, fileRefusal}
+use Rattle.archive.specs.Conditions.{accepted, full, notCompartment}
+use Rattle.records.specs.Layout.{mostRecords, recordSize}
+use Rattle.records.specs.Lines.{held}
+use Rattle.records.specs.Buffer.{countAt, broken, linesIn}
+use Rattle.archive.specs.Archive.{fileRefusals, fileRefusal}
 
 pub compartment-within : (m : ℕ) → notCompartment m ≡ false → (1 ≤ m) × (m ≤ 4)
 compartment-within m e = let p = neither (ltb m 1) (ltb 4 m) e in (ltb-false m 1 (p .0), ltb-false 4 m (p .1))
@@ -23,6 +26,21 @@ compartment-within m e = let p = neither (ltb m 1) (ltb 4 m) e in (ltb-false m 1
 pub accepted-refused : {A : Type 0} (r : ℕ) (a b : A) → (r ≡ 0 → ⊥) → accepted r a b ≡ b
 accepted-refused zero a b h = absurd (h refl)
 accepted-refused (suc r) a b h = refl
+
+-- ── free space in plain numbers
+
+pub full-exactly : (size used n : ℕ) → (full size used n ≡ false → (used + 96 ≤ size) × (n ≡ 1000000 → ⊥)) × (used + 96 ≤ size → (n ≡ 1000000 → ⊥) → full size used n ≡ false)
+unfolding full
+full-exactly size used n = (free, not-full)
+  where
+    free : (ltb (size - used) recordSize || eqb n mostRecords) ≡ false → (used + 96 ≤ size) × (n ≡ 1000000 → ⊥)
+    free e =
+        let p = neither (ltb (size - used) recordSize) (eqb n mostRecords) e in
+        let r : recordSize ≤ size - used = ltb-false (size - used) recordSize (p .0) in
+        (omega arith, eqb-false n mostRecords (p .1))
+
+    not-full : used + 96 ≤ size → (n ≡ 1000000 → ⊥) → (ltb (size - used) recordSize || eqb n mostRecords) ≡ false
+    not-full h o = rw (le-ltb (size - used) recordSize (omega arith), ne-eqb n mostRecords o)
 
 -- ── file
 

@@ -1,7 +1,4 @@
 -- What a reader of this crate must believe, in the order of paper 01: definitions only. Theorems about them stand in proofs/.
-pub mod Layout
-pub mod Fields
-pub mod Lines
+pub mod Conditions
 pub mod Archive
 pub mod Answers
-pub mod Called

@@ -4,9 +4,7 @@ ghost use mathlib.Core.Path.{_≡_};
 ghost use Rattle.scenario.specs.Case.{refusalOf};
 ghost use Rattle.archive.specs.Archive.{emptying, emptyBytes, filing, fileBytes, fileRefusal, showRefusal, showPart, naming, recordFigures};
 use emission::work_out;
-
-pub mod records;
-pub mod search;
+use records::search;
 
 pub enum Emptied {
     Used(u64),

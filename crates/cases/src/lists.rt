@@ -2,12 +2,12 @@
 ghost use Prim.Native.Nat.{_≤_};
 ghost use mathlib.Core.Path.{_≡_};
 ghost use lib.ListN.{length};
-ghost use Rattle.archive.specs.Layout.{usedLength, recordSize};
+ghost use Rattle.records.specs.Layout.{usedLength, recordSize};
 use crate::calls::write;
 use crate::calls::write_number;
 use crate::numbers::least;
-use archive::records::figures_at;
-use archive::records::put_line;
+use records::figures_at;
+use records::put_line;
 use binary64::bytes::put_u64;
 use listing::Listed;
 use listing::MOST_OUTPUT;

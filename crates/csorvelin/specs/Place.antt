@@ -2,8 +2,8 @@
 -- Beside a refusal both are 0. That the bytes at this place are the part that show hands out stands in the contract.
 use mathlib.Core.List.{List}
 use Prim.Native.Nat.{ℕ, _*_}
-use Rattle.archive.specs.Layout.{recordSize}
-use Rattle.archive.specs.Lines.{accepted}
+use Rattle.records.specs.Layout.{recordSize}
+use Rattle.archive.specs.Conditions.{accepted}
 use Rattle.archive.specs.Archive.{showRefusal}
 
 unfoldable pub startShown : List ℕ → ℕ → ℕ → ℕ

@@ -3,14 +3,14 @@
 ghost use mathlib.Core.Path.{_≡_};
 ghost use Rattle.scenario.specs.Case.{refusalOf};
 ghost use Rattle.emission.specs.Figures.{figuresOf};
-ghost use Rattle.archive.specs.Lines.{bytesAt};
+ghost use Rattle.records.specs.Layout.{bytesAt};
 ghost use Rattle.archive.specs.Archive.{emptying, emptyBytes, filing, fileBytes, showRefusal, showPart, naming};
 ghost use Rattle.archive.specs.Answers.{emptied, filed, named, ofEmptied, ofFiling, ofHighest};
 ghost use Rattle.csorvelin.specs.Place.{startShown, lengthShown};
 use archive::Emptied;
 use archive::Filing;
 use archive::Highest;
-use archive::records::RECORD_SIZE;
+use records::RECORD_SIZE;
 
 #[no_mangle]
 pub extern "C" fn csorvelin_work_out(case: &[u8], figures: &mut [u64; 4]) -> u32

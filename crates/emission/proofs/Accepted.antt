@@ -21,10 +21,11 @@ use Rattle.scenario.specs.declared.Case.{Case}
 use Rattle.scenario.specs.declared.Head.{Head}
 use Rattle.scenario.specs.declared.Decoded.the-variants.{Accepted, Refused}
 use Rattle.scenario.proofs.Passed.{Passed, passed}
-use Rattle.emission.specs.Ratio.{_over_, roundedUp}
+use Rattle.product.specs.Ratio.{_over_, roundedUp}
 use Rattle.emission.specs.Equations.{toWater, toAir, toSoil}
 use Rattle.emission.specs.Figures.{micrograms, exactValues, figuresOf}
-use Rattle.emission.specs.Ranges.{UpTo, Within, InRange}
+use Rattle.product.specs.Ranges.{UpTo}
+use Rattle.emission.specs.Ranges.{Within, InRange}
 
 -- ── the answer of `decode`
 

@@ -1,26 +1,34 @@
 -- Laws of chains of factors: between a chain as the paper prints it and what the code multiplies.
 --   others                            a chain's factors other than its numbers, in order
---   gather, pull, chain-append        a chain is its numbers times its other factors; a factor brought to the front; two chains in one
+--   gather                            a chain is its numbers times its other factors
 --   others-positive, chain-positive   a chain's lower number is not 0, where that of its numbers is not
 --   one-term, two-terms               kilograms to micrograms, of an equation with one chain and with two
 --   AllPositive, emission-positive    an equation's lower number is not 0
---   quantities-positive, chain-at-most, remainder-at-most, sum-at-most   what the code multiplies is at most the product of the limits
+--   small, within-each                each quantity within its limit is up to the largest limit
+--   chain-at-most, remainder-at-most, sum-at-most   what the code multiplies is at most the product of the limits
 --   figure, figure-sum                what the code returns is the exact value rounded up; here a figure is shown to fit 64 bits, from the limits
--- Ratios alone are in Ratios, a product in limbs in Limbs, the constants of the rows in Tables.
+-- The constants of the rows are in Tables.
 use mathlib.Core.Path.{_≡_, refl, sym, ap, _∙_}
-use mathlib.Core.List.{List, [], _∷_, _++_, map}
+use mathlib.Core.Bool.{Bool, true, _&&_}
+use mathlib.Core.List.{List, [], _∷_, map}
 use Prim.Native.Nat.{ℕ, _+_, _*_, _≤_, _<_, min}
 use native.Mathlib.Nat.{mul-pos}
 use native.Mathlib.Omega.{arith}
+use lib.Dec.{leb}
 use lib.Pow.{pow-pos}
 use lib.Ieee.{Float}
+use borrow.Author.Tests.{leb-true}
+use Rattle.scenario.proofs.Bools.{both}
 use Rattle.natural.specs.Value.{productOf}
-use Rattle.emission.specs.Ratio.{Ratio, _over_, _·_, _⊕_, oneLess, exactly, Same, roundedUp}
-use Rattle.emission.specs.Equations.{Factor, number, quantity, less, factor, chain, total}
+use Rattle.product.specs.Ratio.{Ratio, _over_, _·_, _⊕_, oneLess, exactly, Same, roundedUp}
+use Rattle.product.specs.Chain.{Factor, number, quantity, less, chain}
+use Rattle.emission.specs.Equations.{total}
 use Rattle.emission.specs.Figures.{microgram, micrograms}
 use Rattle.emission.specs.Constants.{numbers}
-use Rattle.emission.specs.Ranges.{UpTo, Within}
-use Rattle.emission.proofs.Ratios.{same-of, times-assoc, times-swap, times-comm, times-one, plus-zero, distributes-left, same-scaled, same-trans, same-times, same-plus, distributes, rounded-same, AtMost, one-less-at-most, at-most-times, at-most-plus, scaled-fits}
+use Rattle.product.specs.Ranges.{UpTo, Each, largest}
+use Rattle.product.proofs.Limbs.{up-to-largest}
+use Rattle.emission.specs.Ranges.{Within}
+use Rattle.product.proofs.Ratios.{same-of, times-assoc, times-swap, plus-zero, distributes-left, same-scaled, same-trans, same-times, same-plus, distributes, rounded-same, AtMost, one-less-at-most, at-most-times, at-most-plus, scaled-fits}
 
 -- ── a chain's factors other than its numbers
 
@@ -36,16 +44,6 @@ gather [] = refl
 gather (number n d ∷ l) = ap (λ (r : Ratio). (n over d) · r) (gather l) ∙ times-assoc (n over d) (numbers l) (chain (others l))
 gather (quantity x ∷ l) = ap (λ (r : Ratio). exactly x · r) (gather l) ∙ times-swap (exactly x) (numbers l) (chain (others l))
 gather (less x ∷ l) = ap (λ (r : Ratio). oneLess (exactly x) · r) (gather l) ∙ times-swap (oneLess (exactly x)) (numbers l) (chain (others l))
-
-pub pull : (l : List Factor) (f : Factor) (m : List Factor) → chain (l ++ f ∷ m) ≡ chain (f ∷ l ++ m)
-unfolding chain
-pull [] f m = refl
-pull (g ∷ l) f m = ap (λ (r : Ratio). factor g · r) (pull l f m) ∙ times-swap (factor g) (factor f) (chain (l ++ m))
-
-pub chain-append : (l m : List Factor) → chain l · chain m ≡ chain (l ++ m)
-unfolding chain
-chain-append [] m = times-comm (1 over 1) (chain m) ∙ times-one (chain m)
-chain-append (f ∷ l) m = sym (times-assoc (factor f) (chain l) (chain m)) ∙ ap (λ (r : Ratio). factor f · r) (chain-append l m)
 
 -- ── lower numbers
 
@@ -90,10 +88,19 @@ emission-positive ls h = mul-pos (omega arith) (total-positive ls h)
 
 -- ── what the code multiplies
 
-pub quantities-positive : (xs : List Float) → 0 < chain (map quantity xs) .lower
-unfolding chain
-quantities-positive [] = omega arith
-quantities-positive (x ∷ xs) = mul-pos (pow-pos 1074) (quantities-positive xs)
+-- all limits are at most the largest
+unfoldable pub small : List ℕ → Bool
+small [] = true
+small (m ∷ ms) = leb m largest && small ms
+
+pub within-each : (xs : List Float) (ms : List ℕ) → small ms ≡ true → Within xs ms → Each xs
+unfolding Within Each small
+within-each [] [] h w = tt
+within-each [] (m ∷ ms) h w = tt
+within-each (x ∷ xs) [] h w = absurd w
+within-each (x ∷ xs) (m ∷ ms) h w =
+    let s = both (leb m largest) (small ms) h in
+    (up-to-largest x m (w .0) (leb-true m largest (s .0)), within-each xs ms (s .1) (w .1))
 
 -- each quantity at most its limit
 pub chain-at-most : (xs : List Float) (ms : List ℕ) → Within xs ms → AtMost (chain (map quantity xs)) (productOf ms)

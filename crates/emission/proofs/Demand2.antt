@@ -19,7 +19,7 @@ use contract.Lifetimes.{Lfts}
 use borrow.Fn.Kinds as kinds
 use Rattle.natural.specs.Ceiling.{ceiling}
 use Rattle.natural.proofs.Ceiling.{ceiling-not-below, ceiling-less-than-one-above, ceiling-zero}
-use Rattle.emission.specs.Ratio.{Ratio, _over_, roundedUp}
+use Rattle.product.specs.Ratio.{Ratio, _over_, roundedUp}
 use Rattle.scenario.specs.Refusal.{IsFirst}
 use Rattle.scenario.specs.Case.{refusals, refusalOf}
 use Rattle.scenario.proofs.Refusals.{refusal-order}

@@ -14,12 +14,13 @@ use lib.ListN.{length, getD}
 use lib.Ieee.{Float}
 use borrow.Author.Tests.{leb-true, eqb-true}
 use Rattle.scenario.proofs.Bools.{both}
-use Rattle.emission.specs.Ratio.{Ratio, _over_, _·_, _⊕_, Same, roundedUp}
+use Rattle.product.specs.Ratio.{Ratio, _over_, _·_, _⊕_, Same, roundedUp}
 use Rattle.emission.specs.Rows.{cityAt}
-use Rattle.emission.specs.Equations.{Factor, number, quantity, chain, applicationAt}
+use Rattle.product.specs.Chain.{Factor, number, quantity, chain}
+use Rattle.emission.specs.Equations.{applicationAt}
 use Rattle.emission.specs.Figures.{microgram, micrograms}
 use Rattle.emission.specs.Constants.{numbers, folds, foldsAll, foldedFrom}
-use Rattle.emission.proofs.Ratios.{AtMost}
+use Rattle.product.proofs.Ratios.{AtMost}
 use Rattle.emission.proofs.Chains.{others, term, largest64, figure, figure-sum}
 
 -- of the row that is the table's entry n

@@ -3,8 +3,8 @@ use mathlib.Core.Bool.{Bool, true, _&&_}
 use mathlib.Core.List.{List, [], _∷_}
 use Prim.Native.Nat.{ℕ, suc, _*_, _^_}
 use lib.Dec.{leb, eqb}
-use Rattle.emission.specs.Ratio.{Ratio, _over_, _·_}
-use Rattle.emission.specs.Equations.{Factor, number, quantity, less}
+use Rattle.product.specs.Ratio.{Ratio, _over_, _·_}
+use Rattle.product.specs.Chain.{Factor, number, quantity, less}
 use Rattle.emission.specs.Figures.{microgram}
 
 -- the numbers of a chain, multiplied

@@ -4,29 +4,14 @@ use mathlib.Core.List.{List, [], _∷_, _++_}
 use Prim.Native.Nat.{ℕ, _-_, _*_}
 use lib.Dec.{eqb}
 use lib.Ieee.{Float}
-use Rattle.scenario.specs.declared.Site.{Site}
 use Rattle.scenario.specs.declared.Case.{Case}
 use Rattle.scenario.specs.declared.Case.the-variants.{Measured, Unknown, Application, Sanitary, Formulation, Hygiene, Toilets}
 use Rattle.scenario.specs.declared.Head.{Head}
-use Rattle.emission.specs.Ratio.{Ratio, _over_, _·_, _⊕_, oneLess, exactly}
+use Rattle.product.specs.Ratio.{Ratio, _over_, _⊕_}
+use Rattle.product.specs.Chain.{Factor, number, quantity, less, chain}
 use Rattle.emission.specs.Rows.{City, cityAt, HygieneRow, hygieneAt}
 
--- a number of the paper, n over d; a quantity of the case; 1 less a quantity
-pub data Factor : Type 0 where
-  number : ℕ → ℕ → Factor
-  quantity : Float → Factor
-  less : Float → Factor
-
--- the exact value of a factor, of a chain of factors, of a sum of chains
-abbrev pub factor : Factor → Ratio
-factor (number n d) = n over d
-factor (quantity x) = exactly x
-factor (less x) = oneLess (exactly x)
-
-unfoldable pub chain : List Factor → Ratio
-chain [] = 1 over 1
-chain (f ∷ fs) = factor f · chain fs
-
+-- the exact value of a sum of chains
 unfoldable pub total : List (List Factor) → Ratio
 total [] = 0 over 1
 total (t ∷ ts) = chain t ⊕ total ts
@@ -60,7 +45,7 @@ unknown a c A volume R L = (number 4000 1 ∷ quantity c ∷ A ∷ volume ∷ R 
 abbrev pub unknownAt : Float → Float → City → List (List Factor)
 unknownAt a c r = unknown a c (fixed (r .area)) (fixed (r .volume)) (fixed (r .density)) (r .life)
 
--- B: 0.03 professional, 0.05 otherwise (001, l. 286-287)
+-- B, what is lost at application: 3 hundredths by professionals, 5 by the others (001, l. 286-287)
 abbrev pub loss : ℕ → Factor
 loss user = cond (eqb user 1) (number 3 100) (number 5 100)
 
@@ -115,7 +100,7 @@ toWater (Hygiene a b g m s) h =
     (consumptionAt a b (hygieneAt (h .row)))
 toWater (Toilets a b c d e) h = toilets a b c d e (cond (eqb (h .row) 0) (h .count) 1)
 
--- a figure without an equation has exact value 0
+-- kind 5 alone has equations for air and soil; a sum of no chains is 0
 unfoldable pub toAir : Case → Head → List (List Factor)
 toAir (Measured a b c s) h = []
 toAir (Unknown a c s) h = []

@@ -1,5 +1,5 @@
 -- The four exact values of a case in micrograms, its four figures, and demand 2's bounds.
--- Paper 01, 'Equations', last paragraph: STP, surface water, air, soil; water goes to STP or surface water by route.
+-- Their order, and where water goes: paper 01, 'Equations', last paragraph.
 use mathlib.Core.Path.{_≡_}
 use mathlib.Core.Bool.{cond}
 use mathlib.Core.List.{List, [], _∷_, map}
@@ -7,8 +7,9 @@ use Prim.Native.Nat.{ℕ, _+_, _*_, _^_, _≤_, _<_}
 use lib.Dec.{eqb}
 use Rattle.scenario.specs.Case.{routeOf, refusalOf}
 use Rattle.scenario.specs.Decoding.{caseOf, headOf}
-use Rattle.emission.specs.Ratio.{Ratio, _over_, _·_, roundedUp}
-use Rattle.emission.specs.Equations.{Factor, total, toWater, toAir, toSoil}
+use Rattle.product.specs.Ratio.{Ratio, _over_, _·_, roundedUp}
+use Rattle.product.specs.Chain.{Factor}
+use Rattle.emission.specs.Equations.{total, toWater, toAir, toSoil}
 
 -- kilograms to micrograms
 abbrev pub microgram : Ratio

@@ -1,5 +1,4 @@
 -- What a reader of this crate must believe, in the order of paper 01: definitions only. Theorems about them stand in proofs/.
-pub mod Ratio
 pub mod Rows
 pub mod Equations
 pub mod Figures

@@ -1,20 +1,13 @@
--- What the functions of this crate ask of their arguments: the part of "within the ranges" that an equation needs.
+-- What an equation asks of a case: the part of "within the ranges" that it needs.
 -- That a case which is not refused has it is a theorem.
 use mathlib.Core.Path.{_≡_}
-use mathlib.Core.Bool.{not}
 use mathlib.Core.List.{List, [], _∷_}
-use Prim.Native.Nat.{ℕ, _*_, _≤_}
-use lib.Dec.{T}
-use lib.Ieee.{Float, binary64, toBits, isNan}
-use Rattle.binary64.specs.Quantity.{whole, one}
+use Prim.Native.Nat.{ℕ, _≤_}
+use lib.Ieee.{Float}
+use Rattle.product.specs.Ranges.{UpTo}
 use Rattle.scenario.specs.declared.Case.{Case}
 use Rattle.scenario.specs.declared.Case.the-variants.{Measured, Unknown, Application, Sanitary, Formulation, Hygiene, Toilets}
 use Rattle.scenario.specs.declared.Head.{Head}
-
--- a quantity that is a number, from 0 to n
-pub record UpTo (n : ℕ) (x : Float) : Type 0 where
-  pub number : T (not (isNan x))
-  pub most : whole (toBits binary64 x) ≤ n * one
 
 -- each up to its own limit
 unfoldable pub Within : List Float → List ℕ → Type 0
@@ -22,14 +15,6 @@ Within [] [] = Unit {0}
 Within [] (n ∷ ns) = ⊥
 Within (x ∷ xs) [] = ⊥
 Within (x ∷ xs) (n ∷ ns) = UpTo n x × Within xs ns
-
--- each up to the largest limit of all
-abbrev pub largest : ℕ
-largest = 1000000
-
-unfoldable pub Each : List Float → Type 0
-Each [] = Unit {0}
-Each (x ∷ xs) = UpTo largest x × Each xs
 
 -- the rows that a kind has, T where row 0 takes it, and the quantities in the order in which they are multiplied
 unfoldable pub InRange : Case → Head → Type 0

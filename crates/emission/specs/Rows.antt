@@ -4,7 +4,7 @@
 use mathlib.Core.List.{List, [], _∷_}
 use Prim.Native.Nat.{ℕ}
 use lib.ListN.{getD}
-use Rattle.emission.specs.Ratio.{Ratio, _over_}
+use Rattle.product.specs.Ratio.{Ratio, _over_}
 
 -- service life in days, area A in m2, density R in kg/m3, volume V in L/m2, houses treated per day N
 pub record City : Type 0 where

@@ -1,8 +1,12 @@
 -- The pencil cases P1 to P10 of paper 01 in one table. One theorem covers it (`worked-examples`).
+use mathlib.Core.Path.{_≡_}
 use mathlib.Core.List.{List, [], _∷_}
 use Prim.Native.Nat.{ℕ, _*_}
+use lib.ListN.{getD}
+use Rattle.scenario.specs.Case.{refusalOf}
 use Rattle.scenario.specs.Builder.{caseBytes, hundred, sixteen, unit, three-quarters, half, quarter, eighth, thirty-second, sixty-fourth, two^-9, two^-10, two^-52, two^-54}
-use Rattle.emission.specs.Ratio.{Ratio, _over_}
+use Rattle.product.specs.Ratio.{Ratio, _over_, Same}
+use Rattle.emission.specs.Figures.{exactValues}
 
 -- what the paper says of a case: a refusal, or four exact values in micrograms (STP, surface water, air, soil)
 pub data Expected : Type 0 where
@@ -53,3 +57,23 @@ examples =
     -- P10
     ∷ (caseBytes 4 1 1 0 0 7 hundred unit unit 0 0 0 gives toPlant nothing)
     ∷ []
+
+-- of a case: refused as printed, or accepted with the four exact values printed
+unfoldable pub Gives : List ℕ → Expected → Type 0
+Gives b (refused n) = refusalOf b ≡ n
+Gives b (exact ps) =
+    let v = exactValues b in
+    (refusalOf b ≡ 0)
+    × Same (getD v 0 nothing) (getD ps 0 nothing)
+    × Same (getD v 1 nothing) (getD ps 1 nothing)
+    × Same (getD v 2 nothing) (getD ps 2 nothing)
+    × Same (getD v 3 nothing) (getD ps 3 nothing)
+
+unfoldable pub Holds : Example → Type 0
+unfolding Gives
+Holds e = Gives (e .case) (e .expected)
+
+unfoldable pub All : List Example → Type 0
+unfolding Holds
+All [] = Unit {0}
+All (e ∷ es) = Holds e × All es

@@ -4,7 +4,8 @@ ghost use mathlib.Core.Bool.{true};
 ghost use Prim.Native.Nat.{_≤_};
 ghost use lib.Ieee.{Float};
 ghost use Rattle.emission.specs.Rows.{cityAt, hygieneAt};
-ghost use Rattle.emission.specs.Equations.{number, loss, measuredAt, unknownAt, applicationAt, consumptionAt};
+ghost use Rattle.product.specs.Chain.{number};
+ghost use Rattle.emission.specs.Equations.{loss, measuredAt, unknownAt, applicationAt, consumptionAt};
 ghost use Rattle.emission.specs.Constants.{foldedFrom};
 
 // Over 73: 4000·A/L, of both terms.

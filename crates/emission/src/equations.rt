@@ -2,7 +2,7 @@
 // The numbers of an equation are folded into one constant k over a small d; the quantities stand in the equation's order.
 ghost use mathlib.Core.Path.{_≡_};
 ghost use Rattle.scenario.specs.declared.Case.the-variants.{Measured, Unknown, Application, Sanitary, Formulation, Hygiene, Toilets};
-ghost use Rattle.emission.specs.Ratio.{roundedUp};
+ghost use Rattle.product.specs.Ratio.{roundedUp};
 ghost use Rattle.emission.specs.Equations.{toWater, toAir, toSoil};
 ghost use Rattle.emission.specs.Figures.{micrograms};
 ghost use Rattle.emission.specs.Ranges.{InRange};
@@ -11,11 +11,10 @@ use crate::constants::consumption_constants;
 use crate::constants::hundredths;
 use crate::constants::measured_constants;
 use crate::constants::unknown_constants;
-use crate::product::compartment_up;
-use crate::product::multiply;
-use crate::product::product_up;
-use crate::product::remainder_up;
-use crate::product::sum_up;
+use product::product_up;
+use product::remainder_up;
+use product::sum_up;
+use product::three_up;
 use scenario::Head;
 use scenario::Site;
 
@@ -95,14 +94,12 @@ pub fn formulation(
     requires { ⌜ InRange (Formulation tonnage source water air soil) head ⌝ }
     ensures { λ r. ⌜ (r .water ≡ roundedUp (micrograms (toWater (Formulation tonnage source water air soil) head))) × (r .air ≡ roundedUp (micrograms (toAir (Formulation tonnage source water air soil) head))) × (r .soil ≡ roundedUp (micrograms (toSoil (Formulation tonnage source water air soil) head))) ⌝ }
 {
-    let mut limbs = [0u32; 8];
-    let n = chain::products::grow(&mut limbs, 0, 1, 1000000000000);
-    let quantities = [tonnage, source];
-    let shared = multiply(&mut limbs, n, 0, &quantities);
+    let shared = [tonnage, source];
+    let e = three_up(&shared, water, air, soil, 1000000000000, head.count);
     Emissions {
-        water: compartment_up(limbs, shared.count, shared.depth, water, head.count),
-        air: compartment_up(limbs, shared.count, shared.depth, air, head.count),
-        soil: compartment_up(limbs, shared.count, shared.depth, soil, head.count),
+        water: e[0],
+        air: e[1],
+        soil: e[2],
     }
 }
 

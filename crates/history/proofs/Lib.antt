@@ -1,3 +1,6 @@
--- The theorem over every history, and what keeps it from being empty.
+-- Laws, and the theorems over calls and histories.
+pub mod AnswerLaws
+pub mod Demand1
 pub mod Turns
 pub mod Demand3
+pub mod FreeSpace

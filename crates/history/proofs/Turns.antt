@@ -5,26 +5,28 @@ use mathlib.Core.Bool.{Bool, true, false, cond}
 use mathlib.Core.List.{List, [], _∷_, _++_}
 use Prim.Native.Nat.{ℕ, zero, suc, _+_, _*_, _-_, _≤_, _<_}
 use native.Mathlib.Omega.{arith}
-use borrow.Author.Tests.{ltb-false, leb-false, eqb-false}
-use lib.Dec.{ltb, leb, eqb}
+use borrow.Author.Tests.{ltb-false, leb-false}
+use lib.Dec.{ltb, leb}
 use lib.ListN.{length, getD}
 use Rattle.binary64.specs.Bytes.{splice}
 use Rattle.scenario.specs.Refusal.{Condition, _when_, firstOf}
 use Rattle.scenario.specs.Case.{refusalOf}
-use Rattle.scenario.proofs.Bools.{neither}
 use Rattle.scenario.proofs.Refusals.{none-holds}
 use Rattle.emission.specs.Figures.{figuresOf}
-use Rattle.emission.proofs.Demand2.{Call as WorkOutCall, figure-bounds}
-use Rattle.archive.specs.Layout.{Line, noLine, recordOf, trailer, trailerSize, usedLength, mostRecords, recordSize, edition}
-use Rattle.archive.specs.Lines.{accepted, bytesAt, held, full}
+use Rattle.emission.proofs.Demand2.{Call as WorkOut, figure-bounds}
+use Rattle.records.specs.Layout.{Line, noLine, recordOf, trailer, trailerSize, usedLength, mostRecords, recordSize, edition, bytesAt}
+use Rattle.archive.specs.Conditions.{accepted, full}
+use Rattle.records.specs.Lines.{held}
 use Rattle.archive.specs.Answers.{Answer, emptied, shown, ofEmptied, ofFiling, ofHighest, handed}
-use Rattle.history.specs.Ledger.{Call, empty, file, show, worst, judgedEmpty, judgedFile, judgedShow, judgedWorst, answer, after}
-use Rattle.archive.specs.Archive.{emptyRefusals, emptyRefusal, emptying, emptyBytes, fileRefusal, filing, lineFor, written, fileBytes, showRefusals, showRefusal, showPart, worstRefusals, naming}
-use Rattle.archive.proofs.Calls.{of-emptying, of-filing, of-naming}
+use Rattle.history.specs.Ledger.{Request, empty, file, show, worst, judgedEmpty, judgedFile, judgedShow, judgedWorst, answer, after}
+use Rattle.archive.specs.Archive.{emptyRefusals, emptyRefusal, emptying, emptyBytes, fileRefusal, filing, lineFor, fileBytes, showRefusals, showRefusal, showPart, worstRefusals, naming}
+use Rattle.records.specs.Buffer.{written}
+use Rattle.history.proofs.AnswerLaws.{of-emptying, of-filing, of-naming}
+use Rattle.history.proofs.Demand1.{told-is}
 use Rattle.archive.proofs.Cases.{storable-line}
-use Rattle.archive.proofs.Holding.{Holds, count-is, sound-is, lines-are, record-is, length-emptied, emptied-holds, length-written, written-holds}
-use Rattle.archive.proofs.Refusals.{orElse, behind-case, both-zero, file-refusal-is}
-use Rattle.history.specs.History.{Worked, Emptying, Filing, Showing, Naming, Turn, HeldLine, AllHeld}
+use Rattle.records.proofs.Holding.{Holds, count-is, sound-is, lines-are, record-is, length-emptied, emptied-holds, length-written, written-holds}
+use Rattle.archive.proofs.Refusals.{full-exactly, orElse, behind-case, both-zero, file-refusal-is}
+use Rattle.history.specs.History.{WorkedOut, EmptyTurn, FileTurn, ShowTurn, WorstTurn, Turn, HeldLine, AllHeld}
 
 -- the buffer b of a size, at the used length u, holds the lines ls, each worked out and within its bounds
 pub record Stands (size : ℕ) (b : List ℕ) (u : ℕ) (ls : List Line) : Type 0 where
@@ -32,7 +34,7 @@ pub record Stands (size : ℕ) (b : List ℕ) (u : ℕ) (ls : List Line) : Type 
   pub size-is : length b ≡ size
   pub held : AllHeld ls
 
-pub record Kept (size u : ℕ) (ls : List Line) (c : Call) (a : Answer) (b′ : List ℕ) : Type 0 where
+pub record Kept (size u : ℕ) (ls : List Line) (c : Request) (a : Answer) (b′ : List ℕ) : Type 0 where
   pub answered : a ≡ answer size ls c
   pub stands : Stands size b′ (handed a u) (after size ls c)
 
@@ -42,21 +44,21 @@ all-held-snoc : (ls : List Line) (l : Line) → AllHeld ls → HeldLine l → Al
 all-held-snoc [] l g h = (h, tt)
 all-held-snoc (m ∷ ls) l g h = (g .0, all-held-snoc ls l (g .1) h)
 
-worked-figures : {c f : List ℕ} → Worked c f → f ≡ figuresOf c
+worked-figures : {c f : List ℕ} → WorkedOut c f → f ≡ figuresOf c
 worked-figures w = w .gave ∙ w .call .kept .1 ∙ ap figuresOf (w .on)
 
-held-line : (c f : List ℕ) → refusalOf c ≡ 0 → Worked c f → HeldLine (record { case = c; figures = f })
+held-line : (c f : List ℕ) → refusalOf c ≡ 0 → WorkedOut c f → HeldLine (record { case = c; figures = f })
 held-line c f e w =
     let k = w .call in
-    let o : WorkOutCall = record { lifetimes = k .κs; args = k .args; result = k .result; ends = k .ends; kept = k .kept } in
+    let o : WorkOut = record { lifetimes = k .κs; args = k .args; result = k .result; ends = k .ends; kept = k .kept } in
     record { within-ranges = e; worked = w; bounds = λ i h. rw (← w .on, w .gave) (figure-bounds o (k .kept .0 ∙ ap refusalOf (w .on) ∙ e) i h) }
 
 -- ── empty, on any buffer
 
-emptying-answer : {b : List ℕ} {a : Answer} {b′ : List ℕ} → Emptying b a b′ → a ≡ emptied (emptyRefusal b) (accepted (emptyRefusal b) trailerSize 0)
+pub emptying-answer : {b : List ℕ} {a : Answer} {b′ : List ℕ} → EmptyTurn b a b′ → a ≡ emptied (emptyRefusal b) (accepted (emptyRefusal b) trailerSize 0)
 emptying-answer {b} t = t .says ∙ ap ofEmptied (t .call .kept .0 ∙ ap emptying (t .before)) ∙ of-emptying b
 
-emptying-bytes : {b : List ℕ} {a : Answer} {b′ : List ℕ} → Emptying b a b′ → b′ ≡ emptyBytes b
+emptying-bytes : {b : List ℕ} {a : Answer} {b′ : List ℕ} → EmptyTurn b a b′ → b′ ≡ emptyBytes b
 emptying-bytes t = sym (t .after) ∙ t .call .kept .1 ∙ ap emptyBytes (t .before)
 
 emptied-stands : (b : List ℕ) → trailerSize ≤ length b → Stands (length b) (splice b 0 (trailer recordSize edition 0)) trailerSize []
@@ -64,10 +66,10 @@ emptied-stands b h = record { holds = emptied-holds b h; size-is = length-emptie
 
 -- ── a filing's refusals, as the ledger judges them: the case's own, then these
 
-abbrev fromLines : ℕ → List Line → List ℕ → List Condition
+abbrev pub fromLines : ℕ → List Line → List ℕ → List Condition
 fromLines size ls c = (22 when held ls c) ∷ (23 when full size (usedLength recordSize (length ls)) (length ls)) ∷ []
 
-judged-file-is : (size : ℕ) (ls : List Line) (c : List ℕ) → firstOf (judgedFile size ls c) ≡ orElse (refusalOf c) (firstOf (fromLines size ls c))
+pub judged-file-is : (size : ℕ) (ls : List Line) (c : List ℕ) → firstOf (judgedFile size ls c) ≡ orElse (refusalOf c) (firstOf (fromLines size ls c))
 unfolding judgedFile
 judged-file-is size ls c = behind-case c (fromLines size ls c)
 
@@ -82,17 +84,17 @@ module _ {b : List ℕ} {u : ℕ} {ls : List Line} (h : Holds b u ls) (g : AllHe
   show-answer k true e = refl
   show-answer k false e = record-is h k (leb-false (length ls) k e)
 
-  show-kept : {k : ℕ} {a : Answer} {b′ : List ℕ} → Showing k b u a b′ → Kept (length b) u ls (show k) a b′
+  show-kept : {k : ℕ} {a : Answer} {b′ : List ℕ} → ShowTurn k b u a b′ → Kept (length b) u ls (show k) a b′
   unfolding answer after showRefusals showPart judgedShow
   show-kept {k} t =
       let e : _ ≡ shown (showRefusal b u k) (showPart b u k) =
-      t .says ∙ λ i. shown ((t .told .kept ∙ λ j. showRefusal (t .before-told j) (t .at-told j) (t .number-told j)) i) ((t .call .kept ∙ λ j. showPart (t .before j) (t .at j) (t .number j)) i) in
+      t .says ∙ λ i. shown ((told-is (t .call) (t .told) (t .same) ∙ λ j. showRefusal (t .before j) (t .at j) (t .number j)) i) ((t .call .kept ∙ λ j. showPart (t .before j) (t .at j) (t .number j)) i) in
       record {
         answered = e ∙ rw (sound-is h, count-is h) (ap (shown (cond (leb (length ls) k) 24 0)) (show-answer k (leb (length ls) k) refl));
         stands = rw (e, ← t .after) still;
       }
 
-  worst-kept : {m : ℕ} {a : Answer} {b′ : List ℕ} → Naming m b u a b′ → Kept (length b) u ls (worst m) a b′
+  worst-kept : {m : ℕ} {a : Answer} {b′ : List ℕ} → WorstTurn m b u a b′ → Kept (length b) u ls (worst m) a b′
   unfolding answer after worstRefusals judgedWorst
   worst-kept {m} t =
       let e = t .says ∙ ap ofHighest (t .call .kept ∙ λ i. naming (t .before i) (t .at i) (t .compartment i)) ∙ of-naming b u m in
@@ -103,7 +105,7 @@ module _ {b : List ℕ} {u : ℕ} {ls : List Line} (h : Holds b u ls) (g : AllHe
   empty-stands true e = still
   empty-stands false e = emptied-stands b (ltb-false (length b) trailerSize e)
 
-  empty-kept : {a : Answer} {b′ : List ℕ} → Emptying b a b′ → Kept (length b) u ls empty a b′
+  empty-kept : {a : Answer} {b′ : List ℕ} → EmptyTurn b a b′ → Kept (length b) u ls empty a b′
   unfolding answer after emptyRefusals emptyBytes judgedEmpty
   empty-kept t = record {
     answered = emptying-answer t;
@@ -120,15 +122,13 @@ module _ {b : List ℕ} {u : ℕ} {ls : List Line} (h : Holds b u ls) (g : AllHe
     pub fewer : length ls < mostRecords
 
   free-lines : (c : List ℕ) → firstOf (judgedFile (length b) ls c) ≡ 0 → FreeLines c
-  unfolding full
   free-lines c e =
       let z = both-zero (refusalOf c) (firstOf (fromLines (length b) ls c)) (sym (judged-file-is (length b) ls c) ∙ e) in
-      let f = neither (ltb (length b - usedLength recordSize (length ls)) recordSize) (eqb (length ls) mostRecords) (none-holds (fromLines (length b) ls c) refl (z .1) 1) in
-      let r : recordSize ≤ length b - usedLength recordSize (length ls) = ltb-false _ _ (f .0) in
-      let n : length ls ≡ mostRecords → ⊥ = eqb-false _ _ (f .1) in
-      record { within-ranges = z .0; room = omega (arith, h .length-is); fewer = omega (arith, h .few) }
+      let f = full-exactly (length b) (usedLength recordSize (length ls)) (length ls) .0 (none-holds (fromLines (length b) ls c) refl (z .1) 1) in
+      let n = f .1 in
+      record { within-ranges = z .0; room = rw (h .length-is) (f .0); fewer = omega (arith, h .few) }
 
-  file-stands : (c f : List ℕ) (r : ℕ) → (r ≡ 0 → FreeLines c) → (refusalOf c ≡ 0 → Worked c f)
+  file-stands : (c f : List ℕ) (r : ℕ) → (r ≡ 0 → FreeLines c) → (refusalOf c ≡ 0 → WorkedOut c f)
       → Stands (length b) (accepted r (written b (length ls) (lineFor c)) b) (accepted r (accepted r (usedLength recordSize (length ls + 1)) u) u) (accepted r (ls ++ (record { case = c; figures = f } ∷ [])) ls)
   file-stands c f zero free fed =
       let z = free refl in
@@ -141,7 +141,7 @@ module _ {b : List ℕ} {u : ℕ} {ls : List Line} (h : Holds b u ls) (g : AllHe
       }
   file-stands c f (suc r) free fed = still
 
-  file-kept : {c f : List ℕ} {a : Answer} {b′ : List ℕ} → Filing c f b u a b′ → Kept (length b) u ls (file c f) a b′
+  file-kept : {c f : List ℕ} {a : Answer} {b′ : List ℕ} → FileTurn c f b u a b′ → Kept (length b) u ls (file c f) a b′
   unfolding answer after fileBytes
   file-kept {c} {f} t =
       let e = t .says ∙ ap (λ r. ofFiling r u) (t .call .kept .0 ∙ λ i. filing (t .before i) (t .at i) (t .case i)) ∙ of-filing b u c in
@@ -151,18 +151,18 @@ module _ {b : List ℕ} {u : ℕ} {ls : List Line} (h : Holds b u ls) (g : AllHe
         stands = rw (e, o, same-refusal c, count-is h) (file-stands c f (firstOf (judgedFile (length b) ls c)) (free-lines c) (t .fed));
       }
 
-  kept-of : (c : Call) {a : Answer} {b′ : List ℕ} → Turn c b u a b′ → Kept (length b) u ls c a b′
+  kept-of : (c : Request) {a : Answer} {b′ : List ℕ} → Turn c b u a b′ → Kept (length b) u ls c a b′
   kept-of empty t = empty-kept t
   kept-of (file c f) t = file-kept t
   kept-of (show k) t = show-kept t
   kept-of (worst m) t = worst-kept t
 
-pub kept : {size : ℕ} {b : List ℕ} {u : ℕ} {ls : List Line} (c : Call) {a : Answer} {b′ : List ℕ} → Stands size b u ls → Turn c b u a b′ → Kept size u ls c a b′
+pub kept : {size : ℕ} {b : List ℕ} {u : ℕ} {ls : List Line} (c : Request) {a : Answer} {b′ : List ℕ} → Stands size b u ls → Turn c b u a b′ → Kept size u ls c a b′
 kept c s t = rw (← s .size-is) (kept-of (s .holds) (s .held) c t)
 
 -- ── the first call, an accepted empty, on any buffer
 
-pub first-stands : {b : List ℕ} {v : ℕ} {b′ : List ℕ} → Emptying b (emptied 0 v) b′
+pub first-stands : {b : List ℕ} {v : ℕ} {b′ : List ℕ} → EmptyTurn b (emptied 0 v) b′
     → (emptied 0 v ≡ answer (length b) [] empty) × (after (length b) [] empty ≡ []) × Stands (length b) b′ v []
 unfolding answer after emptyRefusals emptyBytes judgedEmpty
 first-stands {b} {v} t =

@@ -1,3 +1,4 @@
--- What a reader of this crate must believe: definitions only. The theorem stands in proofs/Demand3.
+-- What a reader of this crate must believe: definitions only. The theorems stand in proofs/: Demand1, Demand3, FreeSpace.
+pub mod Calls
 pub mod Ledger
 pub mod History

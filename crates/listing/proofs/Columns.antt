@@ -16,8 +16,8 @@ use Rattle.natural.proofs.Ceiling.{ceiling-of}
 use Rattle.binary64.specs.Bytes.{numberOf, numberAt, splice}
 use Rattle.binary64.proofs.Numbers.{numberAt-one}
 use Rattle.binary64.proofs.Splice.{splice-join}
-use Rattle.archive.specs.Layout.{lineOf}
-use Rattle.archive.proofs.RecordLaws.{part-take, line-figures}
+use Rattle.records.specs.Layout.{lineOf}
+use Rattle.records.proofs.RecordLaws.{part-take, line-figures}
 use Rattle.listing.specs.Decimal.{decimal}
 use Rattle.listing.specs.Listing.{space, lineFeed, milligrams, columnsOf, columnsText}
 use Rattle.listing.proofs.Stores.{store-one}

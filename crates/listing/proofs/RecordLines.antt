@@ -16,7 +16,7 @@ use Rattle.natural.proofs.Ceiling.{ceiling-at-most}
 use Rattle.binary64.specs.Bytes.{numberAt, splice}
 use Rattle.binary64.proofs.Numbers.{numberAt-small}
 use Rattle.binary64.proofs.Splice.{splice-join}
-use Rattle.archive.specs.Layout.{Line, lineOf, decode, recordSize}
+use Rattle.records.specs.Layout.{Line, lineOf, decode, recordSize}
 use Rattle.listing.specs.Decimal.{decimal}
 use Rattle.listing.specs.Listing.{milligrams, columnsOf, columnsText, lineText, linesText}
 use Rattle.listing.proofs.Digits.{decimal-at-most}

@@ -16,9 +16,9 @@ use lib.ListN.{length, take, length-append}
 use Rattle.binary64.specs.Bytes.{splice}
 use Rattle.binary64.proofs.Splice.{length-splice, splice-join, splice-read}
 use Rattle.scenario.proofs.Bools.{neither}
-use Rattle.archive.specs.Layout.{decode, recordSize}
-use Rattle.archive.specs.Archive.{countAt, linesIn}
-use Rattle.archive.proofs.Trailer.{sound-facts}
+use Rattle.records.specs.Layout.{decode, recordSize}
+use Rattle.records.specs.Buffer.{countAt, linesIn}
+use Rattle.records.proofs.Trailer.{sound-facts}
 use Rattle.listing.specs.Listing.{codes, header, refusal, linesText, mostOutput, refused, listingOf, holds, listed, listedBytes}
 use Rattle.listing.specs.declared.Listed.{Listed}
 use Rattle.listing.specs.declared.Listed.the-variants.{Written, Needs}

@@ -9,8 +9,8 @@ use lib.ListN.{length}
 use Rattle.natural.specs.Ceiling.{ceiling}
 use Rattle.binary64.specs.Bytes.{splice}
 use Rattle.scenario.specs.Case.{kindOf, rowOf, routeOf, dossierOf}
-use Rattle.archive.specs.Layout.{Line}
-use Rattle.archive.specs.Archive.{broken, linesIn}
+use Rattle.records.specs.Layout.{Line}
+use Rattle.records.specs.Buffer.{broken, linesIn}
 use Rattle.listing.specs.Decimal.{decimal}
 use Rattle.listing.specs.declared.Listed.{Listed}
 use Rattle.listing.specs.declared.Listed.the-variants.{Written, Needs}

@@ -5,8 +5,8 @@ ghost use Prim.Native.Nat.{_≤_};
 ghost use lib.ListN.{length};
 ghost use Rattle.binary64.specs.Bytes.{splice};
 ghost use Rattle.listing.specs.Listing.{refused, listingOf, listed, listedBytes};
-use archive::records::count_at;
-use archive::records::is_broken;
+use records::count_at;
+use records::is_broken;
 
 pub mod decimal;
 pub mod lines;

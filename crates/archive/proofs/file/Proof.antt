@@ -3,7 +3,7 @@ use mathlib.Core.Path.{sym, _∙_}
 use native.Mathlib.Omega.{arith}
 use borrow.Author.Needs.{needs}
 use Rattle.archive.proofs.Cases.{case-size}
-use Rattle.archive.proofs.Trailer.{free-facts, file-refused, file-accepted}
+use Rattle.archive.proofs.Accepted.{free-facts, file-refused, file-accepted}
 use Rattle.archive.proofs.file.Statement.{statement}
 use Rattle.archive.proofs.file.Tie as tie
 

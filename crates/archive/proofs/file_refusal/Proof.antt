@@ -2,10 +2,10 @@
 use mathlib.Core.Path.{sym, _∙_}
 use native.Mathlib.Omega.{arith}
 use borrow.Author.Needs.{needs}
-use Rattle.archive.specs.Lines.{full}
+use Rattle.archive.specs.Conditions.{full}
 use Rattle.archive.proofs.Cases.{case-size}
 use Rattle.archive.proofs.Refusals.{case-refused, file-refusal-is}
-use Rattle.archive.proofs.Trailer.{sound-facts}
+use Rattle.records.proofs.Trailer.{sound-facts}
 use Rattle.archive.proofs.file_refusal.Statement.{statement}
 use Rattle.archive.proofs.file_refusal.Tie as tie
 

@@ -4,12 +4,12 @@ use Prim.Native.Nat.{ℕ}
 use native.Mathlib.Omega.{arith}
 use borrow.Author.Needs.{needs}
 use borrow.Author.Tests.{eq-eqb, ne-eqb}
-use Rattle.archive.specs.Layout.{decode, recordSize}
-use Rattle.archive.specs.Lines.{worstOf}
+use Rattle.records.specs.Layout.{decode, recordSize}
+use Rattle.records.specs.Lines.{worstOf}
 use Rattle.archive.specs.Archive.{worstRefusals, naming}
 use Rattle.archive.specs.declared.Highest.the-variants.{Number}
 use Rattle.archive.proofs.Refusals.{compartment-within}
-use Rattle.archive.proofs.Trailer.{sound-facts}
+use Rattle.records.proofs.Trailer.{sound-facts}
 use Rattle.archive.proofs.worst.Statement.{statement}
 use Rattle.archive.proofs.worst.Tie as tie
 

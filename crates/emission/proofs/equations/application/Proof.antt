@@ -7,11 +7,11 @@ use borrow.Author.Needs.{needs}
 use borrow.Author.Tests.{eq-eqb, ne-eqb}
 use Rattle.natural.specs.Value.{productOf}
 use native.Mathlib.Nat.{mul-le-mul-right}
-use Rattle.emission.specs.Equations.{number, quantity, application, toWater}
+use Rattle.product.specs.Chain.{number, quantity}
+use Rattle.emission.specs.Equations.{application, toWater}
 use Rattle.emission.specs.Ranges.{Within, InRange}
 use Rattle.emission.specs.Constants.{numbers}
-use Rattle.emission.proofs.Chains.{others, term, chain-at-most, figure}
-use Rattle.emission.proofs.Limbs.{small, within-each}
+use Rattle.emission.proofs.Chains.{others, term, chain-at-most, figure, small, within-each}
 use Rattle.emission.proofs.Tables.{constant-small, lost-fits, figure-lost}
 use Rattle.emission.proofs.equations.application.Statement.{statement}
 use Rattle.emission.proofs.equations.application.Tie as tie

@@ -7,11 +7,11 @@ use borrow.Author.Needs.{needs}
 use borrow.Author.Tests.{eq-eqb, ne-eqb}
 use Rattle.natural.specs.Value.{productOf}
 use Rattle.emission.specs.Rows.{hygieneAt}
-use Rattle.emission.specs.Equations.{quantity, consumption, consumptionAt, toWater}
+use Rattle.product.specs.Chain.{quantity}
+use Rattle.emission.specs.Equations.{consumption, consumptionAt, toWater}
 use Rattle.emission.specs.Ranges.{Within, InRange}
 use Rattle.emission.specs.Constants.{numbers}
-use Rattle.emission.proofs.Chains.{others, term, chain-at-most, figure}
-use Rattle.emission.proofs.Limbs.{small, within-each}
+use Rattle.emission.proofs.Chains.{others, term, chain-at-most, figure, small, within-each}
 use Rattle.emission.proofs.Tables.{figure-at}
 use Rattle.emission.proofs.equations.consumption.Statement.{statement}
 use Rattle.emission.proofs.equations.consumption.Tie as tie

@@ -8,12 +8,14 @@ use borrow.Author.Tests.{eq-eqb, ne-eqb}
 use Rattle.natural.specs.Value.{productOf}
 use lib.Pow.{pow-pos}
 use Rattle.emission.specs.Rows.{cityAt}
-use Rattle.emission.specs.Ratio.{exactly}
-use Rattle.emission.specs.Equations.{Factor, quantity, chain, measured, measuredAt, toWater}
+use Rattle.product.specs.Ratio.{exactly}
+use Rattle.product.specs.Chain.{Factor, quantity, chain}
+use Rattle.emission.specs.Equations.{measured, measuredAt, toWater}
 use Rattle.emission.specs.Ranges.{Within, InRange}
 use Rattle.emission.specs.Constants.{numbers}
-use Rattle.emission.proofs.Chains.{others, pull, term, next, quantities-positive, sum-at-most, figure-sum}
-use Rattle.emission.proofs.Limbs.{small, within-each, up-to-largest}
+use Rattle.product.proofs.Chains.{pull, quantities-positive}
+use Rattle.emission.proofs.Chains.{others, term, next, sum-at-most, figure-sum, small, within-each}
+use Rattle.product.proofs.Limbs.{up-to-largest}
 use Rattle.emission.proofs.Tables.{older-positive, older-same, figure-sum-at}
 use Rattle.emission.proofs.equations.measured.Statement.{statement}
 use Rattle.emission.proofs.equations.measured.Tie as tie

@@ -6,11 +6,12 @@ use native.Mathlib.Omega.{arith}
 use borrow.Author.Needs.{needs}
 use borrow.Author.Tests.{eq-eqb, ne-eqb}
 use Rattle.natural.specs.Value.{productOf}
-use Rattle.emission.specs.Equations.{quantity, less, toilets, toWater}
+use Rattle.product.specs.Chain.{quantity, less}
+use Rattle.emission.specs.Equations.{toilets, toWater}
 use Rattle.emission.specs.Ranges.{Within, InRange}
 use Rattle.emission.specs.Constants.{numbers}
-use Rattle.emission.proofs.Chains.{others, pull, term, remainder-at-most, figure}
-use Rattle.emission.proofs.Limbs.{small, within-each}
+use Rattle.product.proofs.Chains.{pull}
+use Rattle.emission.proofs.Chains.{others, term, remainder-at-most, figure, small, within-each}
 use Rattle.emission.proofs.equations.toilets.Statement.{statement}
 use Rattle.emission.proofs.equations.toilets.Tie as tie
 

@@ -7,11 +7,11 @@ use borrow.Author.Needs.{needs}
 use borrow.Author.Tests.{eq-eqb, ne-eqb}
 use Rattle.natural.specs.Value.{productOf}
 use Rattle.emission.specs.Rows.{cityAt}
-use Rattle.emission.specs.Equations.{quantity, unknown, unknownAt, toWater}
+use Rattle.product.specs.Chain.{quantity}
+use Rattle.emission.specs.Equations.{unknown, unknownAt, toWater}
 use Rattle.emission.specs.Ranges.{Within, InRange}
 use Rattle.emission.specs.Constants.{numbers}
-use Rattle.emission.proofs.Chains.{others, term, chain-at-most, figure}
-use Rattle.emission.proofs.Limbs.{small, within-each}
+use Rattle.emission.proofs.Chains.{others, term, chain-at-most, figure, small, within-each}
 use Rattle.emission.proofs.Tables.{figure-at}
 use Rattle.emission.proofs.equations.unknown.Statement.{statement}
 use Rattle.emission.proofs.equations.unknown.Tie as tie

@@ -5,7 +5,7 @@ use Prim.Native.Nat.{ℕ, _+_}
 use native.Mathlib.Omega.{arith}
 use borrow.Author.Needs.{needs}
 use lib.ListN.{length}
-use Rattle.archive.specs.Layout.{lineOf}
+use Rattle.records.specs.Layout.{lineOf}
 use Rattle.listing.specs.Listing.{columnsText, lineText}
 use Rattle.listing.proofs.Columns.{length-columns}
 use Rattle.listing.proofs.RecordLines.{length-line, line-at-most}

@@ -4,7 +4,7 @@ use mathlib.Core.List.{List}
 use Prim.Native.Nat.{ℕ, _+_, _-_, _≤_}
 use native.Mathlib.Omega.{arith}
 use lib.ListN.{length}
-use Rattle.archive.specs.Layout.{lineOf, decode, recordSize}
+use Rattle.records.specs.Layout.{lineOf, decode, recordSize}
 use Rattle.listing.specs.Listing.{lineText, linesText}
 use Rattle.listing.proofs.RecordLines.{recordAt, record-part, length-record, linesFrom, lines-start, length-lines-step, lines-end, lines-at-most}
 use Rattle.listing.proofs.lines.lines_length.Statement.{statement}

@@ -7,7 +7,7 @@ use borrow.Author.Needs.{needs}
 use lib.ListN.{length}
 use Rattle.binary64.specs.Bytes.{splice}
 use Rattle.binary64.proofs.Splice.{splice-nil, splice-join}
-use Rattle.archive.specs.Layout.{lineOf, decode, recordSize}
+use Rattle.records.specs.Layout.{lineOf, decode, recordSize}
 use Rattle.listing.specs.Listing.{lineText, linesText}
 use Rattle.listing.proofs.RecordLines.{recordAt, record-part, length-record, linesFrom, lines-start, lines-step, length-lines-step, lines-end}
 use Rattle.listing.proofs.lines.put_lines.Statement.{statement}

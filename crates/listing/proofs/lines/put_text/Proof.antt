@@ -6,7 +6,7 @@ use native.Mathlib.Omega.{arith}
 use borrow.Author.Needs.{needs}
 use lib.ListN.{length, drop, length-set}
 use lib.Seq.{sets}
-use Rattle.archive.proofs.Writing.{copy-step, copy-done}
+use Rattle.records.proofs.Writing.{copy-step, copy-done}
 use Rattle.listing.proofs.lines.put_text.Statement.{statement}
 use Rattle.listing.proofs.lines.put_text.Tie as tie
 

@@ -1,0 +1,116 @@
+-- Free space in plain numbers: when a case within the ranges that is not held is filed, and when it meets 23.
+-- `file-exactly`, of one call on any archive; `filed-exactly`, of a filing after any history; `first-filing`, of the first one behind an empty.
+use mathlib.Core.Path.{_≡_, refl, _∙_}
+use mathlib.Core.Bool.{Bool, true, false, cond}
+use mathlib.Core.List.{List, [], _∷_}
+use Prim.Native.Nat.{ℕ, _+_, _*_, _≤_, _<_}
+use native.Mathlib.Nat.{not-suc-le-zero}
+use native.Mathlib.Omega.{arith}
+use borrow.Author.Tests.{le-ltb}
+use denote.Ref.{now}
+use lib.ListN.{length}
+use Rattle.scenario.specs.Case.{refusalOf}
+use Rattle.scenario.specs.Refusal.{firstOf}
+use Rattle.records.specs.Layout.{Line, usedLength, recordSize}
+use Rattle.records.specs.Lines.{IsHeld}
+use Rattle.records.specs.Buffer.{countAt, broken, linesIn}
+use Rattle.records.proofs.HeldLine.{not-held}
+use Rattle.records.proofs.Trailer.{sound-facts}
+use Rattle.archive.specs.Conditions.{full}
+use Rattle.archive.specs.Archive.{emptyRefusals, fileRefusal, filing}
+use Rattle.archive.specs.Answers.{Answer, emptied, filed}
+use Rattle.archive.specs.declared.Filing.the-variants.{Filed, Refused}
+use Rattle.archive.proofs.Refusals.{full-exactly, file-refusal-is}
+use Rattle.history.specs.Calls.{FileCall}
+use Rattle.history.specs.Ledger.{Request, empty, file, judgedFile, answer, lines}
+use Rattle.history.specs.History.{EmptyTurn, FileTurn, Run, next, History}
+use Rattle.history.proofs.Turns.{Stands, kept, first-stands, emptying-answer, judged-file-is}
+use Rattle.history.proofs.Demand3.{history-followed}
+
+-- ── full, of numbers
+
+is-full : (size u n : ℕ) → (full size u n ≡ false → ⊥) → full size u n ≡ true
+is-full size u n h = go (full size u n) refl
+  where
+    go : (t : Bool) → full size u n ≡ t → t ≡ true
+    go true e = refl
+    go false e = absurd (h e)
+
+full-short : (size u n : ℕ) → size < u + 96 → full size u n ≡ true
+full-short size u n h = is-full size u n (λ e. omega (arith, full-exactly size u n .0 e .0))
+
+full-most : (size u n : ℕ) → n ≡ 1000000 → full size u n ≡ true
+full-most size u n h = is-full size u n (λ e. full-exactly size u n .0 e .1 h)
+
+free : (size u n : ℕ) → u + 96 ≤ size → n < 1000000 → full size u n ≡ false
+free size u n h l = full-exactly size u n .1 h (λ e. omega arith)
+
+-- ── one call, on an archive of any content
+
+module _ (call : FileCall) where
+  abbrev b : List ℕ
+  b = now (call .args .0)
+
+  abbrev u : ℕ
+  u = call .args .1 .0
+
+  abbrev c : List ℕ
+  c = now (call .args .1 .1 .0)
+
+  by-space : refusalOf c ≡ 0 → broken b u ≡ false → (IsHeld (linesIn b u) c → ⊥) → fileRefusal b u c ≡ cond (full (length b) u (countAt b u)) 23 0
+  by-space e s h = file-refusal-is b u c ∙ rw (e, s, not-held (linesIn b u) c h)
+
+  pub file-exactly : refusalOf c ≡ 0 → broken b u ≡ false → (IsHeld (linesIn b u) c → ⊥)
+      → (u + 96 ≤ length b → countAt b u < 1000000 → call .result ≡ Filed (countAt b u) (u + 96))
+      × (length b < u + 96 → call .result ≡ Refused 23)
+      × (countAt b u ≡ 1000000 → call .result ≡ Refused 23)
+  unfolding filing
+  file-exactly e s h =
+      let r = by-space e s h in
+      let k : usedLength recordSize (countAt b u + 1) ≡ u + 96 = omega (arith, sound-facts b u s .length-is) in (
+        λ p q. call .kept .0 ∙ rw (r, free (length b) u (countAt b u) p q, k),
+        λ p. call .kept .0 ∙ rw (r, full-short (length b) u (countAt b u) p),
+        λ p. call .kept .0 ∙ rw (r, full-most (length b) u (countAt b u) p),
+      )
+
+-- ── a filing after a history
+
+-- on a buffer that holds n lines
+after-lines : {size : ℕ} {b : List ℕ} {u : ℕ} {ls : List Line} {c f : List ℕ} {a : Answer} {b′ : List ℕ} → Stands size b u ls → FileTurn c f b u a b′
+    → refusalOf c ≡ 0 → (IsHeld ls c → ⊥)
+    → let n = length ls in
+    (96 * n + 112 ≤ size → n < 1000000 → a ≡ filed 0 n (96 * n + 112))
+    × (size < 96 * n + 112 → a ≡ filed 23 0 (96 * n + 16))
+    × (n ≡ 1000000 → a ≡ filed 23 0 (96 * n + 16))
+unfolding answer
+after-lines {size} {ls = ls} {c = c} {f = f} s t e h =
+    let n = length ls in
+    let w = usedLength recordSize n in
+    let r : firstOf (judgedFile size ls c) ≡ cond (full size w n) 23 0 = judged-file-is size ls c ∙ rw (e, not-held ls c h) in
+    let z = kept (file c f) s t .answered in
+    let k : usedLength recordSize (n + 1) ≡ 96 * n + 112 = omega arith in (
+      λ p q. z ∙ rw (r, free size w n (omega arith) q, k),
+      λ p. z ∙ rw (r, full-short size w n (omega arith)),
+      λ p. z ∙ rw (r, full-most size w n p),
+    )
+
+pub filed-exactly : {b : List ℕ} {cs : List Request} {rs : List Answer} {b″ : List ℕ} {u″ : ℕ} {c f : List ℕ} {a : Answer} {b‴ : List ℕ}
+    → History b cs rs b″ u″ → FileTurn c f b″ u″ a b‴ → refusalOf c ≡ 0 → (IsHeld (lines (length b) [] cs) c → ⊥)
+    → let n = length (lines (length b) [] cs) in
+    (96 * n + 112 ≤ length b → n < 1000000 → a ≡ filed 0 n (96 * n + 112))
+    × (length b < 96 * n + 112 → a ≡ filed 23 0 (96 * n + 16))
+    × (n ≡ 1000000 → a ≡ filed 23 0 (96 * n + 16))
+filed-exactly h t e o = after-lines (history-followed h .stands) t e o
+
+-- ── an empty, and the first filing behind it
+
+emptied-16 : {b : List ℕ} {a : Answer} {b′ : List ℕ} → EmptyTurn b a b′ → 16 ≤ length b → a ≡ emptied 0 16
+unfolding emptyRefusals
+emptied-16 {b} t h = emptying-answer t ∙ rw (le-ltb (length b) 16 h)
+
+pub first-filing : {b : List ℕ} {u : ℕ} {c f : List ℕ} {cs : List Request} {a₀ a₁ : Answer} {rs : List Answer} {b″ : List ℕ} {u″ : ℕ}
+    → Run b u (empty ∷ file c f ∷ cs) (a₀ ∷ a₁ ∷ rs) b″ u″ → 112 ≤ length b → refusalOf c ≡ 0 → (a₀ ≡ emptied 0 16) × (a₁ ≡ filed 0 0 112)
+first-filing (next t (next k r)) h e =
+    let z = emptied-16 t (omega arith) in
+    let s = first-stands (rw z at t) in
+    (z, after-lines (s .2) (rw z at k) e (λ x. not-suc-le-zero (x .there)) .0 h (omega arith))

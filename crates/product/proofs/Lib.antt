@@ -1,0 +1,4 @@
+-- Laws of exact values, of chains and of products in limbs.
+pub mod Ratios
+pub mod Chains
+pub mod Limbs

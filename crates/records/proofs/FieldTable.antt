@@ -1,0 +1,106 @@
+-- The fields cover the record, each byte once: `fields-cover`; those of the case are the fields that it is written by: `fields-of-case`.
+-- Writing a line leaves each field's bytes at its offset: `written-field`.
+use mathlib.Core.Path.{_≡_, refl, _∙_}
+use mathlib.Core.Bool.{Bool, true, _&&_}
+use mathlib.Core.List.{List, [], _∷_, _++_, append-assoc, map}
+use Prim.Native.Nat.{ℕ, zero, suc, _+_, _*_, _≤_, _<_}
+use native.Mathlib.Nat.{le-of-suc-le-suc, not-suc-le-zero, mul-suc}
+use native.Mathlib.Omega.{arith}
+use borrow.Author.Tests.{leb-true, eqb-true, ltb-true}
+use lib.Dec.{eqb, leb, ltb}
+use lib.ListN.{length, take, drop, getD, length-drop}
+use lib.Seq.{take-at, take-append-le, drop-append-le, drop-append-add, length-take-le}
+use Rattle.binary64.specs.Bytes.{bytesOf, splice}
+use Rattle.binary64.proofs.Numbers.{length-bytesOf}
+use Rattle.scenario.specs.Builder.{caseBytes}
+use Rattle.scenario.proofs.Bools.{both}
+use Rattle.records.specs.Layout.{Line, figureBytes, recordOf, trailer, recordSize, edition, bytesAt}
+use Rattle.records.specs.Fields.{Source, given, figureAt, Field, fields, noField, coversFrom, fieldBytes}
+use Rattle.records.specs.Buffer.{written}
+use Rattle.records.proofs.RecordLaws.{Sized, length-recordOf}
+
+pub fields-cover : coversFrom 0 fields ≡ true
+fields-cover = refl
+
+-- the case's fields are those that a case is written by, in the table's order
+pub fields-of-case : (kind row route user t dossier a b c d e f : ℕ)
+    → map (λ (x : Field). bytesAt (caseBytes kind row route user t dossier a b c d e f) (x .offset) (x .width)) (take 12 fields)
+    ≡ (kind ∷ []) ∷ (row ∷ []) ∷ (route ∷ []) ∷ (user ∷ []) ∷ bytesOf 4 t ∷ bytesOf 8 dossier
+    ∷ bytesOf 8 a ∷ bytesOf 8 b ∷ bytesOf 8 c ∷ bytesOf 8 d ∷ bytesOf 8 e ∷ bytesOf 8 f ∷ []
+unfolding caseBytes bytesOf
+fields-of-case kind row route user t dossier a b c d e f = refl
+
+-- ── a field in the record of a line
+
+-- it lies in the case, or is the place of one of the four figures
+abbrev Placed : ℕ → ℕ → Source → Type 0
+Placed o w given = o + w ≤ 64
+Placed o w (figureAt k) = (o ≡ 64 + 8 * k) × (w ≡ 8) × (k < 4)
+
+figure-place : (fs : List ℕ) (k : ℕ) → k < length fs → bytesAt (figureBytes fs) (8 * k) 8 ≡ bytesOf 8 (getD fs k 0)
+unfolding figureBytes
+figure-place [] k h = absurd (not-suc-le-zero h)
+figure-place (f ∷ fs) zero h = take-at (bytesOf 8 f) (figureBytes fs) 8 (length-bytesOf 8 f)
+figure-place (f ∷ fs) (suc k) h =
+    let p : 8 * suc k ≡ length (bytesOf 8 f) + 8 * k = omega (arith, length-bytesOf 8 f, mul-suc 8 k) in
+    rw (p, drop-append-add (bytesOf 8 f) (figureBytes fs) (8 * k)) (figure-place fs k (le-of-suc-le-suc h))
+
+in-record : (l : Line) (o w : ℕ) (s : Source) → Sized l → Placed o w s → bytesAt (recordOf l) o w ≡ fieldBytes l o w s
+unfolding recordOf
+in-record l o w given h p =
+    let c = h .case-size in
+    rw (drop-append-le o (l .case) (figureBytes (l .figures)) (omega arith)) (take-append-le w (drop o (l .case)) (figureBytes (l .figures)) (rw length-drop (omega arith)))
+in-record l o w (figureAt k) h p =
+    let f = h .four in
+    let q : o ≡ length (l .case) + 8 * k = rw (h .case-size) (p .0) in
+    rw (q, p .1, drop-append-add (l .case) (figureBytes (l .figures)) (8 * k)) (figure-place (l .figures) k (omega arith))
+
+-- every field of the table is placed: one computed test
+abbrev placed : Field → Source → Bool
+placed f given = leb (f .offset + f .width) 64
+placed f (figureAt k) = eqb (f .offset) (64 + 8 * k) && (eqb (f .width) 8 && ltb k 4)
+
+abbrev allPlaced : List Field → Bool
+allPlaced [] = true
+allPlaced (f ∷ fs) = placed f (f .source) && allPlaced fs
+
+placed-at : (fs : List Field) (d : Field) (k : ℕ) → k < length fs → allPlaced fs ≡ true → placed (getD fs k d) (getD fs k d .source) ≡ true
+placed-at [] d k h e = absurd (not-suc-le-zero h)
+placed-at (f ∷ fs) d zero h e = both (placed f (f .source)) (allPlaced fs) e .0
+placed-at (f ∷ fs) d (suc k) h e = placed-at fs d k (le-of-suc-le-suc h) (both (placed f (f .source)) (allPlaced fs) e .1)
+
+as-placed : (f : Field) (s : Source) → placed f s ≡ true → Placed (f .offset) (f .width) s
+as-placed f given e = leb-true _ _ e
+as-placed f (figureAt k) e =
+    let p = both (eqb (f .offset) (64 + 8 * k)) (eqb (f .width) 8 && ltb k 4) e in
+    let q = both (eqb (f .width) 8) (ltb k 4) (p .1) in
+    (eqb-true _ _ (p .0), eqb-true _ _ (q .0), ltb-true _ _ (q .1))
+
+within-record : (o w : ℕ) (s : Source) → Placed o w s → o + w ≤ recordSize
+within-record o w given p = omega arith
+within-record o w (figureAt k) p = omega arith
+
+-- ── and in what is written
+
+-- what was spliced in is read back
+read-back : (l vs ws : List ℕ) (at o w : ℕ) → at ≤ length l → o + w ≤ length vs → bytesAt (splice l at (vs ++ ws)) (at + o) w ≡ bytesAt vs o w
+unfolding splice
+read-back l vs ws at o w h k =
+    let r = drop (at + length (vs ++ ws)) l in
+    let p : at + o ≡ length (take at l) + o = rw (length-take-le at l h) in
+    let q : (take at l ++ (vs ++ ws)) ++ r ≡ take at l ++ (vs ++ (ws ++ r)) = simp append-assoc in
+    rw (q, p, drop-append-add (take at l) (vs ++ (ws ++ r)) o, drop-append-le o vs (ws ++ r) (omega arith))
+    (take-append-le w (drop o vs) (ws ++ r) (rw length-drop (omega arith)))
+
+written-at : (b : List ℕ) (n : ℕ) (l : Line) (o w : ℕ) (s : Source) → Sized l → recordSize * n ≤ length b → Placed o w s
+    → bytesAt (written b n l) (recordSize * n + o) w ≡ fieldBytes l o w s
+unfolding written
+written-at b n l o w s h a p =
+    read-back b (recordOf l) (trailer recordSize edition (n + 1)) (recordSize * n) o w a (rw (length-recordOf l h) (within-record o w s p)) ∙ in-record l o w s h p
+
+pub written-field : (b : List ℕ) (n : ℕ) (l : Line) → Sized l → recordSize * n ≤ length b → (k : ℕ) → k < length fields
+    → let f = getD fields k noField in
+    bytesAt (written b n l) (recordSize * n + f .offset) (f .width) ≡ fieldBytes l (f .offset) (f .width) (f .source)
+written-field b n l h a k i =
+    let f = getD fields k noField in
+    written-at b n l (f .offset) (f .width) (f .source) h a (as-placed f (f .source) (placed-at fields noField k i refl))

@@ -1,0 +1,9 @@
+-- Laws that this crate's proofs and the crates above cite.
+pub mod Writing
+pub mod RecordLaws
+pub mod Trailer
+pub mod Scan
+pub mod HeldLine
+pub mod WorstLine
+pub mod FieldTable
+pub mod Holding

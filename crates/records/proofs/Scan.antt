@@ -1,0 +1,234 @@
+-- Laws of searching the records of a buffer.
+-- The lines from record k on: `from`, `from-start`, `from-end`, `from-cons`. The same filing by two numbers: `same-numbers`; `held-here`, `held-next`, `held-none`.
+-- The highest figure, from the first record to the last: the next above a figure, `above-here`, `above-next`, `above-none`; `scan-start`, `scan-inside`, `scan-here`, `scan-end`.
+use mathlib.Core.Path.{_≡_, refl, sym, ap, _∙_}
+use mathlib.Core.Bool.{Bool, true, false, _&&_, _||_, cond}
+use mathlib.Core.List.{List, [], _∷_}
+use Prim.Native.Nat.{ℕ, zero, suc, _+_, _*_, _-_, _≤_, _<_, max}
+use native.Mathlib.Nat.{sub-zero, add-zero, zero-add, mul-suc, le-of-suc-le-suc, not-suc-le-zero}
+use native.Mathlib.Omega.{arith}
+use borrow.Author.Tests.{eq-eqb, ne-eqb, eqb-true, eqb-false, lt-ltb, le-ltb, ltb-true, ltb-false}
+use lib.Dec.{ltb, eqb}
+use lib.ListN.{length, getD, take, drop, length-drop}
+use lib.Seq.{drop-drop, getD-drop}
+use Rattle.binary64.specs.Bytes.{numberOf, numberAt}
+use Rattle.records.specs.Layout.{Line, figuresIn, lineOf, decode, recordSize, bytesAt}
+use Rattle.records.specs.Lines.{sameBytes, sameFiling, held, figure, highest, firstWith, firstAbove, worstOf}
+use Rattle.records.proofs.RecordLaws.{numberAt-drop, part-take, part-drop}
+
+-- ── the lines from record k on
+
+unfoldable pub from : List ℕ → ℕ → ℕ → List Line
+from b n k = decode recordSize (n - k) (drop (recordSize * k) b)
+
+pub from-start : (b : List ℕ) (n : ℕ) → from b n 0 ≡ decode recordSize n b
+unfolding from
+from-start b n = rw sub-zero
+
+pub from-end : (b : List ℕ) (n k : ℕ) → n ≤ k → from b n k ≡ []
+unfolding from decode
+from-end b n k h = let d : n - k ≡ 0 = omega arith in rw d
+
+pub lineAt : List ℕ → ℕ → Line
+lineAt b k = lineOf (take recordSize (drop (recordSize * k) b))
+
+pub from-cons : (b : List ℕ) (n k : ℕ) → k < n → from b n k ≡ lineAt b k ∷ from b n (k + 1)
+unfolding from decode lineAt
+from-cons b n k h =
+    let d : n - k ≡ suc (n - (k + 1)) = omega arith in
+    let e : recordSize * (k + 1) ≡ recordSize * k + recordSize = omega arith in
+    rw (d, e, ← drop-drop recordSize (recordSize * k) b)
+
+-- ── equal numbers are equal bytes
+
+abbrev Bytes : List ℕ → Type 0
+Bytes l = (i : ℕ) → getD l i 0 < 256
+
+digit : (x y a b : ℕ) (p q : Bool) → eqb x y ≡ p → eqb a b ≡ q → x < 256 → y < 256 → eqb (x + 256 * a) (y + 256 * b) ≡ (p && q)
+digit x y a b true true e f hx hy = eq-eqb (x + 256 * a) (y + 256 * b) (omega (arith, eqb-true x y e, eqb-true a b f))
+digit x y a b true false e f hx hy = ne-eqb (x + 256 * a) (y + 256 * b) (λ h. eqb-false a b f (omega arith))
+digit x y a b false q e f hx hy = ne-eqb (x + 256 * a) (y + 256 * b) (λ h. eqb-false x y e (omega arith))
+
+same-front : (k : ℕ) (xs ys : List ℕ) → Bytes xs → Bytes ys → k ≤ length xs → k ≤ length ys
+    → eqb (numberOf (take k xs)) (numberOf (take k ys)) ≡ sameBytes (take k xs) (take k ys)
+unfolding numberOf
+same-front zero xs ys bx by hx hy = refl
+same-front (suc k) [] ys bx by hx hy = absurd (omega arith)
+same-front (suc k) (x ∷ xs) [] bx by hx hy = absurd (omega arith)
+same-front (suc k) (x ∷ xs) (y ∷ ys) bx by hx hy =
+    digit x y (numberOf (take k xs)) (numberOf (take k ys)) (eqb x y) (sameBytes (take k xs) (take k ys)) refl
+    (same-front k xs ys (λ i. bx (suc i)) (λ i. by (suc i)) (omega arith) (omega arith)) (bx zero) (by zero)
+
+same-part : (b c : List ℕ) (i j k : ℕ) → Bytes b → Bytes c → i + k ≤ length b → j + k ≤ length c
+    → eqb (numberAt b i k) (numberAt c j k) ≡ sameBytes (bytesAt b i k) (bytesAt c j k)
+unfolding numberAt
+same-part b c i j k bb bc hb hc =
+    same-front k (drop i b) (drop j c) (λ n. rw getD-drop (bb (i + n))) (λ n. rw getD-drop (bc (j + n))) (rw length-drop (omega arith)) (rw length-drop (omega arith))
+
+-- ── held
+
+case-part : (b : List ℕ) (k i n : ℕ) → i + n ≤ 64 → bytesAt (lineAt b k .case) i n ≡ bytesAt b (recordSize * k + i) n
+unfolding lineAt lineOf
+case-part b k i n h =
+    part-take (take recordSize (drop (recordSize * k) b)) i n 64 h ∙ part-take (drop (recordSize * k) b) i n recordSize (omega arith) ∙ part-drop b i n (recordSize * k)
+
+-- of two numbers read from record k and two of the case
+pub same-numbers : (b c : List ℕ) (k : ℕ) {x y h d : ℕ} → Bytes b → Bytes c → recordSize * k + recordSize ≤ length b → length c ≡ 64
+    → x ≡ numberAt b (recordSize * k) 4 → h ≡ numberAt c 0 4 → y ≡ numberAt b (recordSize * k + 8) 8 → d ≡ numberAt c 8 8
+    → (eqb x h && eqb y d) ≡ sameFiling (lineAt b k .case) c
+unfolding sameFiling
+same-numbers b c k bb bc hb hc x h y d =
+    rw (case-part b k 0 4 (omega arith), case-part b k 8 8 (omega arith), add-zero, x, h, y, d, same-part b c (recordSize * k) 0 4 bb bc (omega arith) (omega arith), same-part b c (recordSize * k + 8) 8 8 bb bc (omega arith) (omega arith))
+
+pub held-step : (b c : List ℕ) (n k : ℕ) → k < n → held (from b n k) c ≡ (sameFiling (lineAt b k .case) c || held (from b n (k + 1)) c)
+unfolding held
+held-step b c n k h = rw (from-cons b n k h)
+
+pub held-none : (b c : List ℕ) (n k : ℕ) → n ≤ k → held (from b n k) c ≡ false
+unfolding held
+held-none b c n k h = rw (from-end b n k h)
+
+-- ── the highest figure
+
+figuresIn-at : (m c : ℕ) (b : List ℕ) → c < m → getD (figuresIn m b) c 0 ≡ numberAt b (8 * c) 8
+unfolding figuresIn
+figuresIn-at zero c b h = absurd (not-suc-le-zero h)
+figuresIn-at (suc m) zero b h = refl
+figuresIn-at (suc m) (suc c) b h =
+    let e : 8 * suc c ≡ 8 + 8 * c = omega (arith, mul-suc 8 c) in
+    figuresIn-at m c (drop 8 b) (le-of-suc-le-suc h) ∙ rw e (numberAt-drop b 8 (8 * c) 8)
+
+numberAt-take : (b : List ℕ) (at w m : ℕ) → at + w ≤ m → numberAt (take m b) at w ≡ numberAt b at w
+unfolding numberAt
+numberAt-take b at w m h = ap numberOf (part-take b at w m h)
+
+figure-at : (b : List ℕ) (k m : ℕ) → 1 ≤ m → m ≤ 4 → figure m (lineAt b k) ≡ numberAt b (recordSize * k + (56 + 8 * m)) 8
+unfolding figure lineAt lineOf
+figure-at b k m p q =
+    let r = take recordSize (drop (recordSize * k) b) in
+    let e : 64 + 8 * (m - 1) ≡ 56 + 8 * m = omega arith in
+    figuresIn-at 4 (m - 1) (drop 64 r) (omega arith)
+    ∙ numberAt-drop r 64 (8 * (m - 1)) 8
+    ∙ rw e (numberAt-take (drop (recordSize * k) b) (56 + 8 * m) 8 recordSize (omega arith) ∙ numberAt-drop b (recordSize * k) (56 + 8 * m) 8)
+
+-- The number of the worst record of all, where that of the records before k is best, with the figure top, and ls are the lines from k on.
+unfoldable pub overall : ℕ → ℕ → ℕ → ℕ → List Line → ℕ
+overall m k best top ls = cond (ltb top (highest m ls)) (k + worstOf m ls) best
+
+-- a line before others is the worst, or the worst of the others is
+module _ (m : ℕ) (l : Line) (ls : List Line) where
+  worst-here : highest m ls ≤ figure m l → worstOf m (l ∷ ls) ≡ 0
+  unfolding worstOf firstWith highest
+  worst-here h = let t : max (figure m l) (highest m ls) ≡ figure m l = omega arith in rw (t, eq-eqb (figure m l) (figure m l) refl)
+
+  worst-later : figure m l < highest m ls → worstOf m (l ∷ ls) ≡ suc (worstOf m ls)
+  unfolding worstOf firstWith highest
+  worst-later h =
+      let t : max (figure m l) (highest m ls) ≡ highest m ls = omega arith in
+      rw (t, ne-eqb (figure m l) (highest m ls) (λ e. omega arith))
+
+  overall-here : (k best top : ℕ) → top < figure m l → overall m (k + 1) k (figure m l) ls ≡ overall m k best top (l ∷ ls)
+  unfolding overall highest
+  overall-here k best top g = go (ltb (figure m l) (highest m ls)) refl
+    where
+      above : ltb top (max (figure m l) (highest m ls)) ≡ true
+      above = lt-ltb top (max (figure m l) (highest m ls)) (omega arith)
+
+      go : (t : Bool) → ltb (figure m l) (highest m ls) ≡ t
+          → cond (ltb (figure m l) (highest m ls)) (k + 1 + worstOf m ls) k ≡ cond (ltb top (max (figure m l) (highest m ls))) (k + worstOf m (l ∷ ls)) best
+      go true e = rw (e, above, worst-later (ltb-true (figure m l) (highest m ls) e)) (omega arith)
+      go false e = rw (e, above, worst-here (ltb-false (figure m l) (highest m ls) e)) (omega arith)
+
+  overall-next : (k best top : ℕ) → figure m l ≤ top → overall m (k + 1) best top ls ≡ overall m k best top (l ∷ ls)
+  unfolding overall highest
+  overall-next k best top g = go (ltb top (highest m ls)) refl
+    where
+      go : (t : Bool) → ltb top (highest m ls) ≡ t
+          → cond (ltb top (highest m ls)) (k + 1 + worstOf m ls) best ≡ cond (ltb top (max (figure m l) (highest m ls))) (k + worstOf m (l ∷ ls)) best
+      go true e =
+          let h = ltb-true top (highest m ls) e in
+          rw (e, lt-ltb top (max (figure m l) (highest m ls)) (omega arith), worst-later (omega arith)) (omega arith)
+      go false e =
+          let h = ltb-false top (highest m ls) e in
+          rw (e, le-ltb top (max (figure m l) (highest m ls)) (omega arith))
+
+overall-none : (m : ℕ) (ls : List Line) → overall m 0 0 0 ls ≡ worstOf m ls
+unfolding overall highest worstOf firstWith
+overall-none m [] = refl
+overall-none m (l ∷ ls) = go (ltb 0 (highest m (l ∷ ls))) refl
+  where
+    go : (t : Bool) → ltb 0 (highest m (l ∷ ls)) ≡ t → cond (ltb 0 (highest m (l ∷ ls))) (0 + worstOf m (l ∷ ls)) 0 ≡ worstOf m (l ∷ ls)
+    go true e = rw e (zero-add (worstOf m (l ∷ ls)))
+    go false e = let h = ltb-false 0 (highest m (l ∷ ls)) e in rw e (sym (worst-here m l ls (omega arith)))
+
+-- of the figure x in compartment m of record k
+module _ (b : List ℕ) (n m k x : ℕ) (p : 1 ≤ m) (q : m ≤ 4) (h : k < n) (e : x ≡ numberAt b (recordSize * k + (56 + 8 * m)) 8) where
+  here : figure m (lineAt b k) ≡ x
+  here = figure-at b k m p q ∙ sym e
+
+  pub above-here : (top : ℕ) → top < x → firstAbove m top (from b n k) ≡ 0
+  unfolding firstAbove
+  above-here top g = rw (from-cons b n k h, here, lt-ltb top x g)
+
+  pub above-next : (top : ℕ) → x ≤ top → firstAbove m top (from b n k) ≡ suc (firstAbove m top (from b n (k + 1)))
+  unfolding firstAbove
+  above-next top g = rw (from-cons b n k h, here, le-ltb top x g)
+
+pub above-none : (b : List ℕ) (n m k top : ℕ) → n ≤ k → firstAbove m top (from b n k) ≡ 0
+unfolding firstAbove
+above-none b n m k top h = rw (from-end b n k h)
+
+-- what is known before record k is looked at
+pub record Scanned (b : List ℕ) (n m k best top : ℕ) : Type 0 where
+  pub most : k ≤ n
+  pub left : overall m k best top (from b n k) ≡ worstOf m (decode recordSize n b)
+
+pub scan-start : (b : List ℕ) (n m : ℕ) → Scanned b n m 0 0 0
+scan-start b n m = record { most = omega arith; left = overall-none m (from b n 0) ∙ ap (worstOf m) (from-start b n) }
+
+-- what is known at record j, the next that is above top, or the end
+record Next (b : List ℕ) (n m j best top : ℕ) : Type 0 where
+  pub scanned : Scanned b n m j best top
+  pub above : j < n → top < figure m (lineAt b j)
+
+pass : (b : List ℕ) (n m best top d k j : ℕ) → k + d ≡ n → Scanned b n m k best top → j ≡ k + firstAbove m top (from b n k) → Next b n m j best top
+unfolding firstAbove
+pass b n m best top zero k j e s f =
+    let z : j ≡ k = f ∙ rw (from-end b n k (omega arith)) (add-zero k) in
+    rw z (record { scanned = s; above = λ h. absurd (omega arith) })
+pass b n m best top (suc d) k j e s f = go (ltb top (figure m (lineAt b k))) refl (pass b n m best top d (k + 1) j (omega arith))
+  where
+    o : from b n k ≡ lineAt b k ∷ from b n (k + 1)
+    o = from-cons b n k (omega arith)
+
+    go : (t : Bool) → ltb top (figure m (lineAt b k)) ≡ t → (Scanned b n m (k + 1) best top → j ≡ k + 1 + firstAbove m top (from b n (k + 1)) → Next b n m j best top)
+        → Next b n m j best top
+    go true t r =
+        let z : j ≡ k = f ∙ rw (o, t) (add-zero k) in
+        rw z (record { scanned = s; above = λ h. ltb-true top (figure m (lineAt b k)) t })
+    go false t r =
+        let z : j ≡ k + 1 + firstAbove m top (from b n (k + 1)) = f ∙ rw (o, t) (omega arith) in
+        let g : overall m (k + 1) best top (from b n (k + 1)) ≡ overall m k best top (from b n k) = rw o (overall-next m (lineAt b k) (from b n (k + 1)) k best top (ltb-false top (figure m (lineAt b k)) t)) in
+        r (record { most = omega arith; left = g ∙ s .left }) z
+
+-- the next record that is above top is one of those from k on
+pub scan-inside : (b : List ℕ) (n m k best top j : ℕ) → Scanned b n m k best top → j ≡ k + firstAbove m top (from b n k) → (j ≡ n → ⊥) → (k ≤ j) × (j < n)
+scan-inside b n m k best top j s f o =
+    let r = pass b n m best top (n - k) k j (omega (arith, s .most)) s f in
+    (omega (arith, f), omega (arith, r .scanned .most))
+
+-- record j is above all before it
+pub scan-here : (b : List ℕ) (n m k best top j x : ℕ) → 1 ≤ m → m ≤ 4 → Scanned b n m k best top → j ≡ k + firstAbove m top (from b n k) → j < n
+    → x ≡ numberAt b (recordSize * j + (56 + 8 * m)) 8 → Scanned b n m (j + 1) j x
+scan-here b n m k best top j x p q s f h e =
+    let r = pass b n m best top (n - k) k j (omega (arith, s .most)) s f in
+    let o : overall m (j + 1) j (figure m (lineAt b j)) (from b n (j + 1)) ≡ overall m j best top (from b n j) = rw (from-cons b n j h) (overall-here m (lineAt b j) (from b n (j + 1)) j best top (r .above h)) in
+    record { most = omega arith; left = (rw (here b n m j x p q h e) at o) ∙ r .scanned .left }
+
+-- no record is left that is above top
+pub scan-end : (b : List ℕ) (n m k best top : ℕ) → Scanned b n m k best top → n ≡ k + firstAbove m top (from b n k) → best ≡ worstOf m (decode recordSize n b)
+unfolding overall highest
+scan-end b n m k best top s f =
+    let r = pass b n m best top (n - k) k n (omega (arith, s .most)) s f in
+    let e = rw (from-end b n n (omega arith)) at (r .scanned .left) in
+    rw (le-ltb top 0 (omega arith)) at e
