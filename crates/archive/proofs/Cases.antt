@@ -11,8 +11,8 @@ use Rattle.scenario.proofs.Passed.{passed}
 use Rattle.product.specs.Ratio.{Ratio, roundedUp}
 use Rattle.emission.specs.Figures.{exactValues, figuresOf}
 use Rattle.emission.proofs.Accepted.{figures-exact}
+use Rattle.emission.proofs.FigureSize.{figures-fit}
 use Rattle.archive.specs.Archive.{lineFor}
-use Rattle.archive.proofs.FigureSize.{figures-fit}
 use Rattle.records.proofs.RecordLaws.{Fit, Sized, Storable}
 
 pub case-size : (c : List ℕ) → refusalOf c ≡ 0 → length c ≡ 64

@@ -1,0 +1,90 @@
+// The calls, a line printed for each.
+use archive::Emptied;
+use archive::Filing;
+use archive::Highest;
+use libc::STDOUT_FILENO;
+
+pub fn write(text: &[u8]) {
+    io::write_all(STDOUT_FILENO, text);
+}
+
+pub fn write_number(before: &[u8], x: u64) {
+    write(before);
+    io::print_decimal(STDOUT_FILENO, x);
+}
+
+fn write_figures(before: &[u8], figures: [u64; 4]) {
+    write_number(before, figures[0]);
+    write_number(b" ", figures[1]);
+    write_number(b" ", figures[2]);
+    write_number(b" ", figures[3]);
+}
+
+pub fn work_out(case: &[u8]) {
+    let worked = emission::work_out(case);
+    if worked.refusal != 0 {
+        write_number(b": refused ", worked.refusal as u64);
+        return;
+    }
+    let figures = worked.figures;
+    write_figures(b": ", figures);
+}
+
+// The used length afterwards.
+pub fn empty(archive: &mut [u8]) -> u64 {
+    match archive::empty(archive) {
+        Emptied::Used(length) => {
+            write_number(b": used ", length);
+            length
+        }
+        Emptied::Refused(n) => {
+            write_number(b": refused ", n as u64);
+            0
+        }
+    }
+}
+
+// The used length afterwards.
+pub fn file(archive: &mut [u8], used: u64, case: &[u8]) -> u64 {
+    match archive::file(archive, used, case) {
+        Filing::Filed {
+            number,
+            used: length,
+        } => {
+            write_number(b": number ", number);
+            write_number(b", used ", length);
+            length
+        }
+        Filing::Refused(n) => {
+            write_number(b": refused ", n as u64);
+            used
+        }
+    }
+}
+
+// The figures of the record that is shown.
+pub fn show(archive: &[u8], used: u64, number: u64) {
+    let refusal = archive::show_refusal(archive, used, number);
+    let part = archive::show(archive, used, number);
+    if refusal != 0 {
+        write_number(b": refused ", refusal as u64);
+        write_number(b", bytes ", part.len() as u64);
+        return;
+    }
+    write_number(b": bytes ", part.len() as u64);
+    write_figures(b", figures ", archive::figures_of(part));
+}
+
+pub fn worst(archive: &[u8], used: u64, compartment: u64) {
+    match archive::worst(archive, used, compartment) {
+        Highest::Number(k) => write_number(b": number ", k),
+        Highest::Refused(n) => write_number(b": refused ", n as u64),
+    }
+}
+
+// Another byte at a place.
+pub fn tear(archive: &mut [u8], at: u64) {
+    if at < archive.len() as u64 {
+        archive[at as usize] = 97;
+    }
+}

@@ -1,2 +1,0 @@
--- The used length that this program hands on.
-pub mod Used
