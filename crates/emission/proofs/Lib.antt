@@ -7,3 +7,4 @@ pub mod Positive
 pub mod FigureSize
 pub mod Demand2
 pub mod Examples
+pub mod Bounds

@@ -4,3 +4,4 @@ pub mod Demand1
 pub mod Turns
 pub mod Demand3
 pub mod FreeSpace
+pub mod WorkedHistory

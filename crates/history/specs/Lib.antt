@@ -2,3 +2,4 @@
 pub mod Calls
 pub mod Ledger
 pub mod History
+pub mod WorkedHistory

@@ -7,3 +7,4 @@ pub mod HeldLine
 pub mod WorstLine
 pub mod FieldTable
 pub mod Holding
+pub mod TrailerBytes

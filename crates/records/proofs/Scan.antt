@@ -12,6 +12,7 @@ use lib.Dec.{ltb, eqb}
 use lib.ListN.{length, getD, take, drop, length-drop}
 use lib.Seq.{drop-drop, getD-drop}
 use Rattle.binary64.specs.Bytes.{numberOf, numberAt}
+use Rattle.scenario.specs.Case.{kindOf, rowOf, routeOf, userOf, dossierOf}
 use Rattle.records.specs.Layout.{Line, figuresIn, lineOf, decode, recordSize, bytesAt}
 use Rattle.records.specs.Lines.{sameBytes, sameFiling, held, figure, highest, firstWith, firstAbove, worstOf}
 use Rattle.records.proofs.RecordLaws.{numberAt-drop, part-take, part-drop}
@@ -232,3 +233,28 @@ scan-end b n m k best top s f =
     let r = pass b n m best top (n - k) k n (omega (arith, s .most)) s f in
     let e = rw (from-end b n n (omega arith)) at (r .scanned .left) in
     rw (le-ltb top 0 (omega arith)) at e
+
+-- ── the same filing in the fields of a case
+
+regroup : (p q r s t : Bool) → ((p && (q && (r && (s && true)))) && t) ≡ (p && (q && (r && (s && t))))
+regroup false q r s t = refl
+regroup true false r s t = refl
+regroup true true false s t = refl
+regroup true true true false t = refl
+regroup true true true true t = refl
+
+-- the fields on which two cases agree that are the same filing: kind, row, route, user, dossier number, and no other
+pub same-filing-fields : (c d : List ℕ) → Bytes c → Bytes d → length c ≡ 64 → length d ≡ 64
+    → sameFiling c d ≡ (eqb (kindOf c) (kindOf d) && (eqb (rowOf c) (rowOf d) && (eqb (routeOf c) (routeOf d) && (eqb (userOf c) (userOf d) && eqb (dossierOf c) (dossierOf d)))))
+unfolding sameFiling
+same-filing-fields [] d bc bd hc hd = absurd (omega arith)
+same-filing-fields (c₀ ∷ []) d bc bd hc hd = absurd (omega arith)
+same-filing-fields (c₀ ∷ c₁ ∷ []) d bc bd hc hd = absurd (omega arith)
+same-filing-fields (c₀ ∷ c₁ ∷ c₂ ∷ []) d bc bd hc hd = absurd (omega arith)
+same-filing-fields (c₀ ∷ c₁ ∷ c₂ ∷ c₃ ∷ c) [] bc bd hc hd = absurd (omega arith)
+same-filing-fields (c₀ ∷ c₁ ∷ c₂ ∷ c₃ ∷ c) (d₀ ∷ []) bc bd hc hd = absurd (omega arith)
+same-filing-fields (c₀ ∷ c₁ ∷ c₂ ∷ c₃ ∷ c) (d₀ ∷ d₁ ∷ []) bc bd hc hd = absurd (omega arith)
+same-filing-fields (c₀ ∷ c₁ ∷ c₂ ∷ c₃ ∷ c) (d₀ ∷ d₁ ∷ d₂ ∷ []) bc bd hc hd = absurd (omega arith)
+same-filing-fields (c₀ ∷ c₁ ∷ c₂ ∷ c₃ ∷ c) (d₀ ∷ d₁ ∷ d₂ ∷ d₃ ∷ d) bc bd hc hd =
+    rw (same-part (c₀ ∷ c₁ ∷ c₂ ∷ c₃ ∷ c) (d₀ ∷ d₁ ∷ d₂ ∷ d₃ ∷ d) 8 8 8 bc bd (omega arith) (omega arith))
+    (regroup (eqb c₀ d₀) (eqb c₁ d₁) (eqb c₂ d₂) (eqb c₃ d₃) (sameBytes (bytesAt (c₀ ∷ c₁ ∷ c₂ ∷ c₃ ∷ c) 8 8) (bytesAt (d₀ ∷ d₁ ∷ d₂ ∷ d₃ ∷ d) 8 8)))

@@ -7,3 +7,4 @@ pub mod Limits
 pub mod Passed
 pub mod Sum
 pub mod Edges
+pub mod ReadBack

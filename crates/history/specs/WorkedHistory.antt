@@ -1,0 +1,72 @@
+-- A history in plain numbers: requests on a buffer of 496 bytes, which holds five records, and what the ledger answers. One theorem covers it (`worked-history`).
+-- P1, P2, P8 and P10 are the pencil cases of paper 01, P8 with 1/8 tonne; the figures fed are those that work out gives.
+use mathlib.Core.List.{List, [], _∷_}
+use Prim.Native.Nat.{ℕ}
+use Rattle.scenario.specs.Builder.{caseBytes, hundred, unit, half, quarter, eighth, sixty-fourth}
+use Rattle.archive.specs.Answers.{Answer, emptied, filed, shown, named}
+use Rattle.history.specs.Ledger.{Request, empty, file, show, worst}
+
+pub record Told : Type 0 where
+  pub call : Request
+  pub answer : Answer
+
+infix 3 _tells_
+abbrev pub _tells_ : Request → Answer → Told
+c tells a = record { call = c; answer = a }
+
+-- P1 with a dossier number and b; P2 by route 2; P8 with 1/8 tonne, T, fractions to air and to soil
+abbrev sanitary : ℕ → ℕ → List ℕ
+sanitary dossier b = caseBytes 4 1 1 0 0 dossier hundred b unit 0 0 0
+
+abbrev rain : List ℕ
+rain = caseBytes 2 3 2 0 0 7 sixty-fourth 0 unit 0 0 0
+
+abbrev formulation : ℕ → ℕ → ℕ → ℕ → List ℕ
+formulation t dossier air soil = caseBytes 5 0 1 0 t dossier eighth eighth half air soil 0
+
+abbrev four : ℕ → ℕ → ℕ → ℕ → List ℕ
+four s w a g = s ∷ w ∷ a ∷ g ∷ []
+
+-- P1's record, byte by byte
+abbrev pub firstRecord : List ℕ
+firstRecord =
+    4 ∷ 1 ∷ 1 ∷ 0 ∷ 0 ∷ 0 ∷ 0 ∷ 0 ∷ 7 ∷ 0 ∷ 0 ∷ 0 ∷ 0 ∷ 0 ∷ 0 ∷ 0
+    ∷ 0 ∷ 0 ∷ 0 ∷ 0 ∷ 0 ∷ 0 ∷ 0x59 ∷ 0x40 ∷ 0 ∷ 0 ∷ 0 ∷ 0 ∷ 0 ∷ 0 ∷ 0 ∷ 0
+    ∷ 0 ∷ 0 ∷ 0 ∷ 0 ∷ 0 ∷ 0 ∷ 0xf0 ∷ 0x3f ∷ 0 ∷ 0 ∷ 0 ∷ 0 ∷ 0 ∷ 0 ∷ 0 ∷ 0
+    ∷ 0 ∷ 0 ∷ 0 ∷ 0 ∷ 0 ∷ 0 ∷ 0 ∷ 0 ∷ 0 ∷ 0 ∷ 0 ∷ 0 ∷ 0 ∷ 0 ∷ 0 ∷ 0
+    ∷ 0xc5 ∷ 0xc0 ∷ 0x95 ∷ 0x04 ∷ 0 ∷ 0 ∷ 0 ∷ 0 ∷ 0 ∷ 0 ∷ 0 ∷ 0 ∷ 0 ∷ 0 ∷ 0 ∷ 0
+    ∷ 0 ∷ 0 ∷ 0 ∷ 0 ∷ 0 ∷ 0 ∷ 0 ∷ 0 ∷ 0 ∷ 0 ∷ 0 ∷ 0 ∷ 0 ∷ 0 ∷ 0 ∷ 0 ∷ []
+
+unfoldable pub workedHistory : List Told
+workedHistory =
+    (empty tells emptied 0 16)
+    -- nothing is held
+    ∷ (show 0 tells shown 24 [])
+    ∷ (worst 1 tells named 24 0)
+    ∷ (file (sanitary 7 0) (four 76923077 0 0 0) tells filed 0 0 112)
+    -- P10: another b is the same filing
+    ∷ (file (sanitary 7 unit) (four 0 0 0 0) tells filed 22 0 112)
+    -- a dossier number of 2 ^ 32 more is another filing
+    ∷ (file (sanitary 4294967303 0) (four 76923077 0 0 0) tells filed 0 1 208)
+    ∷ (file (sanitary 0 0) (four 0 0 0 0) tells filed 7 0 208)
+    ∷ (file (formulation 250 7 quarter eighth) (four 31250000 0 15625000 7812500) tells filed 0 2 304)
+    -- another T is the same filing
+    ∷ (file (formulation 125 7 quarter eighth) (four 62500000 0 31250000 15625000) tells filed 22 0 304)
+    ∷ (file (formulation 250 8 eighth quarter) (four 31250000 0 7812500 15625000) tells filed 0 3 400)
+    ∷ (file rain (four 0 1498287672 0 0) tells filed 0 4 496)
+    -- full; and what is held is told before what is full
+    ∷ (file (sanitary 9 0) (four 76923077 0 0 0) tells filed 23 0 496)
+    ∷ (file (sanitary 7 0) (four 76923077 0 0 0) tells filed 22 0 496)
+    ∷ (show 0 tells shown 0 firstRecord)
+    ∷ (show 5 tells shown 24 [])
+    -- STP: the first of two equals; each compartment names another record
+    ∷ (worst 1 tells named 0 0)
+    ∷ (worst 2 tells named 0 4)
+    ∷ (worst 3 tells named 0 2)
+    ∷ (worst 4 tells named 0 3)
+    ∷ (worst 0 tells named 12 0)
+    ∷ (worst 5 tells named 12 0)
+    ∷ (empty tells emptied 0 16)
+    ∷ (show 0 tells shown 24 [])
+    ∷ (file (sanitary 7 0) (four 76923077 0 0 0) tells filed 0 0 112)
+    ∷ []
