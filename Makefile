@@ -5,7 +5,7 @@
 # make run      builds the library and the command, and shows the main job on an example
 # make bench    times beside peers in C, and over GMP where its development files are there
 # make fmt      lays out every .rt and .antt file
-.PHONY: test check lib c-test host host-test run bench fmt
+.PHONY: test check trace lib c-test host host-test run bench fmt
 
 CFLAGS = -std=c11 -O2 -Wall -Wextra -Wpedantic -Werror
 LIB = target/staticlib/libcsorvelin.a
@@ -16,16 +16,21 @@ HOST = --quiet --offline --release --manifest-path host/Cargo.toml
 COMMAND = ../../host/target/release/csorvelin
 DEMO = target/demo
 
-test: c-test host-test
+test: trace c-test host-test
 	@rt fmt --check
 	@rt ci
 
 check:
 	@rt check
 
+# The names in docs/TRACE.md and docs/ARCHITECTURE.md are those of the code.
+trace:
+	@tests/trace
+
+# `rt check` proves crates side by side, `rt staticlib` one after another.
 lib:
 	@mkdir -p target
-	@rt staticlib csorvelin >target/lib.log 2>&1 || { cat target/lib.log; exit 1; }
+	@{ rt check emission archive && rt staticlib csorvelin; } >target/lib.log 2>&1 || { cat target/lib.log; exit 1; }
 
 c-test: lib
 	@mkdir -p target/c

@@ -61,7 +61,7 @@ extern "C" {
 #define CSORVELIN_CASE_SIZE_WRONG 1      /* the case is not 64 bytes */
 #define CSORVELIN_KIND_UNKNOWN 2         /* the kind is not 1 to 7 */
 #define CSORVELIN_ROW_UNKNOWN 3          /* the kind has no such row */
-#define CSORVELIN_ROUTE_NOT_ALLOWED 4    /* the route is not 1, or not 2 where 2 is allowed */
+#define CSORVELIN_ROUTE_NOT_ALLOWED 4    /* the route is neither 1 nor, where kind and row allow it, 2 */
 #define CSORVELIN_USER_NOT_ALLOWED 5     /* the user is not one that the kind allows */
 #define CSORVELIN_COUNT_NOT_ALLOWED 6    /* the count T is outside the range of kind and row */
 #define CSORVELIN_DOSSIER_ZERO 7         /* the dossier number is 0 */

@@ -17,7 +17,7 @@ pub record City : Type 0 where
 abbrev pub city : ℕ → Ratio → Ratio → Ratio → ℕ → City
 city l a r v n = record { life = l; area = a; density = r; volume = v; houses = n }
 
--- rows 1 to 7: life and A from 001, Table 1; R and V from 001, Table 2; N from 001, application phase, l. 294-296
+-- rows 1 to 7: life and A from 001, Table 1; R and V from 001, Table 2; N from 001, application phase, l. 291-296
 unfoldable pub cities : List City
 cities =
     -- 1 bathroom joint filler: Table 1, l. 154-155; Table 2, l. 232-234

@@ -64,12 +64,13 @@ impl History {
         self.meet("worst", answer.0);
     }
 
-    /// A case to offer: few dossiers, so that filings repeat, and some that are refused.
+    /// A case to offer: few dossiers, so that filings repeat, numbers that differ in one byte only, and some that are refused.
     fn offered(&mut self) -> Vec<u8> {
         let random = &mut self.random;
         let damaged = random.one_in(6);
         let case = if damaged { cases::damaged(random) } else { cases::valid(random) };
-        let dossier = if case.dossier == 0 { 0 } else { random.between(1, 3) };
+        let dossiers = [1, 1, 2, 257, 1 << 32 | 1, 1 << 63 | 1];
+        let dossier = if case.dossier == 0 { 0 } else { random.pick(&dossiers) };
         let mut bytes = Case { dossier, ..case }.encode().to_vec();
         if random.one_in(30) {
             bytes.truncate(random.below(64) as usize);
@@ -183,6 +184,31 @@ fn a_full_archive() {
         assert_eq!(history.met[&("file", 0)], 30);
         assert!(history.met[&("file", 22)] >= 20 && history.met[&("file", 23)] >= 15);
     }
+}
+
+/// One record, then the same case with one bit changed: held exactly where the bit lies outside bytes 0 to 3 and 8 to 15,
+/// unless the changed case is out of range.
+#[test]
+fn the_same_filing_bit_by_bit() {
+    let mut random = Random::new(6000);
+    let (mut held, mut filed) = (0, 0);
+    for (kind, row) in cases::kinds_and_rows() {
+        let case = Case { dossier: 0x0102_0304_0506_0708, ..cases::valid_of(kind, row, &mut random) }.encode();
+        for bit in 0..512 {
+            let mut other = case;
+            other[bit / 8] ^= 1 << (bit % 8);
+            let mut history = History::new(16 + 2 * 96, 6001);
+            history.empty();
+            history.file(&case);
+            let answer = calls::file(history.buffer.buffer(), history.used, &other).0;
+            let refusal = calls::work_out(&other).0;
+            let same = !matches!(bit / 8, 0..=3 | 8..=15);
+            assert_eq!(answer, if refusal != 0 { refusal } else if same { 22 } else { 0 }, "bit {bit} of kind {kind}");
+            held += u32::from(answer == 22);
+            filed += u32::from(answer == 0);
+        }
+    }
+    assert!(held >= 5000 && filed >= 64 * 35, "{held} held, {filed} filed");
 }
 
 /// Under 16 bytes no archive can be: empty is refused and every other call too, and no byte changes.
