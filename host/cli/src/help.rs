@@ -13,7 +13,8 @@ csorvelin: daily emissions of preservatives, worked out exactly and filed
   csorvelin new ARCHIVE                 a new archive file
   csorvelin file ARCHIVE CASE           works a case out and files it
   csorvelin show ARCHIVE NUMBER         a record, numbered from 0; --out FILE writes its case
-  csorvelin list ARCHIVE                all records, figures in mg (--json: µg); beyond 65,536 bytes with --all only
+  csorvelin list ARCHIVE                all records, figures in mg (--json: µg); refuses an archive over 65,536 bytes,
+                                        with --json too, unless --all is given
   csorvelin worst ARCHIVE COMPARTMENT   the record with the highest figure: stp, surface, air or soil (1 to 4)
   csorvelin defaults                    the default tables with their sources
   csorvelin help [kinds]                this page; the kinds with their fields, limits and equations
