@@ -113,3 +113,15 @@ fn factor_json(factor: &Factor) -> Json {
         ("source", Json::from(factor.source)),
     ])
 }
+
+#[cfg(test)]
+mod tests {
+    use super::*;
+
+    #[test]
+    fn a_document_is_named_by_its_number_alone() {
+        assert!(names("built from 001, worst case, l. 192–194", "001"));
+        assert!(names("000, Table 8, l. 777", "000"));
+        assert!(!names("002, Table 3, l. 1000", "000"));
+    }
+}

@@ -123,7 +123,6 @@ fn refusal_21_names_the_point_that_is_wrong() {
     // The byte that is changed, its new value, and what is said of it.
     let changes = [
         (204, 2, "208 bytes; distance 192, n 2, edition 2 (edition 2 is not 1)"),
-        (203, 1, "208 bytes; distance 192, n 16777218, edition 1 (n 16777218 is over 1000000)"),
         (192, 191, "208 bytes; distance 191, n 2, edition 1 (distance 191 is not 96·2)"),
     ];
     let mut files: Vec<(Vec<u8>, &str)> = vec![
@@ -131,6 +130,8 @@ fn refusal_21_names_the_point_that_is_wrong() {
         (sound[96..].to_vec(), "112 bytes; distance 192, n 2, edition 1 (112 is not 96·2 + 16)"),
         (sound[..15].to_vec(), "15 bytes (fewer than the trailer's 16)"),
         (vec![], "0 bytes (fewer than the trailer's 16)"),
+        (archive::trailer(1_000_000), "16 bytes; distance 96000000, n 1000000, edition 1 (16 is not 96·1000000 + 16)"),
+        (archive::trailer(1_000_001), "16 bytes; distance 96000096, n 1000001, edition 1 (n 1000001 is over 1000000)"),
     ];
     for (place, value, found) in changes {
         let mut bytes = sound.clone();
