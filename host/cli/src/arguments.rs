@@ -14,6 +14,7 @@ pub struct Arguments {
     pub out: Option<String>,
     pub json: bool,
     pub all: bool,
+    pub help: bool,
 }
 
 /// What only some commands take.
@@ -24,10 +25,13 @@ pub enum Part {
     All,
 }
 
-/// A case as given: its bytes, and the text of each quantity that was typed.
+/// The text of each quantity that was typed.
+pub type Typed = [Option<String>; 6];
+
+/// A case as given: its bytes, and what was typed where it was given by fields.
 pub struct Given {
     pub bytes: Vec<u8>,
-    pub typed: [Option<String>; 6],
+    pub typed: Option<Typed>,
 }
 
 const QUANTITIES: [&str; 6] = ["a", "b", "c", "d", "e", "f"];
@@ -47,6 +51,7 @@ impl Arguments {
             out: None,
             json: false,
             all: false,
+            help: false,
         };
         while let Some(word) = words.next() {
             match word.as_str() {
@@ -54,7 +59,7 @@ impl Arguments {
                 "--all" => arguments.all = true,
                 "--case" => once(&mut arguments.case_file, &word, words.next())?,
                 "--out" => once(&mut arguments.out, &word, words.next())?,
-                "--help" | "-h" => arguments.command = "help".to_string(),
+                "--help" | "-h" => arguments.help = true,
                 option if option.starts_with("--") => return usage(format!("unknown option {option}")),
                 _ if arguments.command.is_empty() => arguments.command = word,
                 _ => match word.split_once('=') {
@@ -75,6 +80,14 @@ impl Arguments {
         }
     }
 
+    /// An archive that is written must be a file: `-` would be standard input.
+    pub fn written(&self, archive: &str) -> Result<(), Failure> {
+        match archive {
+            "-" => usage(format!("{} needs an archive file, not standard input", self.command)),
+            _ => Ok(()),
+        }
+    }
+
     /// Refuses a case and options other than those the command takes; `--json` is taken everywhere.
     pub fn takes(&self, parts: &[Part]) -> Result<(), Failure> {
         let given = [
@@ -92,7 +105,7 @@ impl Arguments {
     pub fn case(&self, read: impl Fn(&str) -> Result<Vec<u8>, Failure>) -> Result<Given, Failure> {
         match &self.case_file {
             Some(_) if !self.fields.is_empty() => usage("give fields or --case FILE, not both".to_string()),
-            Some(path) => Ok(Given { bytes: read(path)?, typed: Default::default() }),
+            Some(path) => Ok(Given { bytes: read(path)?, typed: None }),
             None if self.fields.is_empty() => {
                 usage(format!("{} needs a case: fields such as kind=4, or --case FILE", self.command))
             }
@@ -102,7 +115,7 @@ impl Arguments {
 
     fn case_from_fields(&self) -> Result<Given, Failure> {
         let mut case = Case { kind: 0, row: 0, route: 1, user: 0, count: 0, dossier: 0, patterns: [0; 6] };
-        let mut typed: [Option<String>; 6] = Default::default();
+        let mut typed = Typed::default();
         for (index, (name, value)) in self.fields.iter().enumerate() {
             if self.fields[..index].iter().any(|(earlier, _)| earlier == name) {
                 return usage(format!("field {name} is given twice"));
@@ -112,7 +125,7 @@ impl Arguments {
                 typed[place] = Some(value.clone());
             }
         }
-        Ok(Given { bytes: case.to_bytes().to_vec(), typed })
+        Ok(Given { bytes: case.to_bytes().to_vec(), typed: Some(typed) })
     }
 }
 

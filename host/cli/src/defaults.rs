@@ -4,7 +4,7 @@ use crate::json::Json;
 use csorvelin_model::tables::{self, CityRow, DefaultValue, HygieneRow};
 
 pub fn text() -> String {
-    let mut text = "Source documents (l. is a line of the text copy)\n".to_string();
+    let mut text = "Source documents (l. is a line of the text copy; docs/DEFAULTS.md has its SHA-256)\n".to_string();
     for (number, title) in tables::DOCUMENTS {
         text += &format!("  {number}  {title}\n");
     }
@@ -31,18 +31,17 @@ pub fn text() -> String {
 
 fn city_text(city: &CityRow) -> String {
     let CityRow { row, name, life, area, density, volume, houses } = city;
-    format!(
-        "  {row}  {name:<23}L {:<6}A {:<6}R {:<6}V {:<6}N {}\n     L [{}]  A [{}]\n     R, V [{}]  N [{}]\n",
-        life.decimal,
-        area.decimal,
-        density.decimal,
-        volume.decimal,
-        houses.decimal,
-        life.source,
-        area.source,
-        density.source,
-        houses.source
-    )
+    let note = tables::volume_note(*row).map_or(String::new(), |note| format!("     Note: {note}\n"));
+    let sources = if life.source == area.source {
+        format!("L, A [{}]", life.source)
+    } else {
+        format!("L [{}]\n     A [{}]", life.source, area.source)
+    };
+    let row = format!(
+        "  {row}  {name:<23}L {:<6}A {:<6}R {:<6}V {:<6}N {}\n     {sources}\n     R, V [{}]  N [{}]\n",
+        life.decimal, area.decimal, density.decimal, volume.decimal, houses.decimal, density.source, houses.source
+    );
+    row + &note
 }
 
 fn hygiene_text(hygiene: &HygieneRow) -> String {
@@ -80,7 +79,7 @@ pub fn json() -> Json {
 }
 
 fn city_json(city: &CityRow) -> Json {
-    Json::object([
+    let row = Json::object([
         ("row", Json::from(city.row)),
         ("name", Json::from(city.name)),
         ("L", default_json(&city.life)),
@@ -88,7 +87,8 @@ fn city_json(city: &CityRow) -> Json {
         ("R", default_json(&city.density)),
         ("V", default_json(&city.volume)),
         ("N", default_json(&city.houses)),
-    ])
+    ]);
+    row.and("note", tables::volume_note(city.row).map(Json::from))
 }
 
 fn hygiene_json(hygiene: &HygieneRow) -> Json {

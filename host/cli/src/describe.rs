@@ -1,5 +1,6 @@
 //! A case and its figures as text and as JSON.
 
+use crate::arguments::Typed;
 use crate::json::Json;
 use crate::numbers;
 use csorvelin_binding::{Case, Figures};
@@ -8,8 +9,9 @@ use csorvelin_model::{ranges, tables};
 
 pub const FIGURE_NAMES: [&str; 4] = ["stp", "surface", "air", "soil"];
 
-/// A line for each field of a case that carries something, quantities with the exact value taken.
-pub fn case_text(case: &Case, typed: &[Option<String>; 6]) -> String {
+/// A line for each field of a case that carries something, quantities with the exact value taken. `typed` is there when
+/// the case was given by fields.
+pub fn case_text(case: &Case, typed: Option<&Typed>) -> String {
     let mut text = String::new();
     let mut line = |name: &str, value: String, note: &str| {
         let line = format!("{name:<9}{value}  {note}");
@@ -29,11 +31,27 @@ pub fn case_text(case: &Case, typed: &[Option<String>; 6]) -> String {
     for (index, name) in QUANTITIES.iter().enumerate() {
         let meaning = meaning(case, index);
         if meaning.is_some() || case.patterns[index] != 0 {
-            let value = taken(case.patterns[index], typed[index].as_deref());
+            let value = match typed.map(|typed| typed[index].as_deref()) {
+                Some(None) => "0 (not given, counted as 0)".to_string(),
+                given => taken(case.patterns[index], given.flatten()),
+            };
             line(&name.to_string(), value, &meaning.unwrap_or_default());
         }
     }
     text
+}
+
+/// A line for each quantity that the case carries and that was not typed.
+pub fn missing(case: &Case, typed: Option<&Typed>) -> String {
+    let Some(typed) = typed else {
+        return String::new();
+    };
+    let listed = ranges::listed(case.kind, case.row).into_iter().filter(|listed| typed[listed.index].is_none());
+    let notes = listed.map(|listed| {
+        let (name, meaning) = (QUANTITIES[listed.index], listed.meaning);
+        format!("csorvelin: note: {name} ({meaning}) is not given and counts as 0\n")
+    });
+    notes.collect()
 }
 
 /// The exact value of a quantity, its pattern, and how it lies to the decimal that was typed.
@@ -96,13 +114,14 @@ pub fn figure_text(figure: u64) -> String {
     format!("{figure} µg per day = {milligrams} mg = {kilograms} kg")
 }
 
-pub fn case_json(case: &Case) -> Json {
-    let quantities = QUANTITIES.iter().zip(case.patterns).map(|(name, pattern)| {
+pub fn case_json(case: &Case, typed: Option<&Typed>) -> Json {
+    let quantities = QUANTITIES.iter().enumerate().map(|(index, name)| {
+        let pattern = case.patterns[index];
         let value = Json::object([
             ("pattern", Json::from(format!("{pattern:#018x}"))),
             ("exact", Json::from(numbers::exact_pattern(pattern))),
         ]);
-        (name.to_string(), value)
+        (name.to_string(), value.and("given", typed.map(|typed| Json::from(typed[index].is_some()))))
     });
     Json::object([
         ("kind", Json::from(case.kind)),

@@ -10,7 +10,8 @@ use csorvelin_model::tables;
 /// Values are padded to one column up to this width.
 const MOST_PADDED: usize = 24;
 
-pub fn text(sheet: &Sheet, figures: [u64; 4]) -> String {
+pub fn text(sheet: &Sheet) -> String {
+    let figures = sheet.figures();
     let mut text = format!("equation {}  (kg per day)\n         [{}]\n", sheet.equation, sheet.source);
     for (compartment, name) in COMPARTMENTS.iter().enumerate() {
         let chains = &sheet.emissions[compartment];
@@ -27,7 +28,13 @@ pub fn text(sheet: &Sheet, figures: [u64; 4]) -> String {
         }
         text += &rounding_text(&sheet.kilograms(compartment), &sheet.micrograms(compartment), figures[compartment]);
     }
-    text + "\n" + &documents(sheet)
+    let note = note(sheet).map_or(String::new(), |note| format!("\nNote: {note}\n"));
+    text + &note + "\n" + &documents(sheet)
+}
+
+/// What must be known of the row's numbers.
+fn note(sheet: &Sheet) -> Option<&'static str> {
+    matches!(sheet.case.kind, 2 | 3).then(|| tables::volume_note(sheet.case.row)).flatten()
 }
 
 /// A line for each factor: sign, symbol, exact value, meaning, source. A symbol that is the value itself is left out.
@@ -65,11 +72,17 @@ fn rounding_text(kilograms: &Ratio, micrograms: &Ratio, figure: u64) -> String {
 fn documents(sheet: &Sheet) -> String {
     let sources = sheet.emissions.iter().flatten().flatten().map(|factor| factor.source);
     let sources: Vec<&str> = sources.chain([sheet.source]).collect();
-    let named = tables::DOCUMENTS.iter().filter(|(number, _)| sources.iter().any(|source| source.starts_with(number)));
+    let named = tables::DOCUMENTS.iter().filter(|(number, _)| sources.iter().any(|source| names(source, number)));
     named.map(|(number, title)| format!("{number}  {title}\n")).collect()
 }
 
-pub fn json(sheet: &Sheet, figures: [u64; 4]) -> Json {
+/// A source names a document by its number, which may stand anywhere in it but not inside another number.
+fn names(source: &str, document: &str) -> bool {
+    source.split(|character: char| !character.is_alphanumeric()).any(|word| word == document)
+}
+
+pub fn json(sheet: &Sheet) -> Json {
+    let figures = sheet.figures();
     let emissions = (0..4).map(|compartment| {
         let chains = sheet.emissions[compartment].iter();
         Json::object([
@@ -81,13 +94,14 @@ pub fn json(sheet: &Sheet, figures: [u64; 4]) -> Json {
         ])
     });
     let documents = tables::DOCUMENTS.iter().map(|(number, title)| (number.to_string(), Json::from(*title)));
-    Json::object([
+    let sheet_json = Json::object([
         ("kind", Json::from(describe::kind_name(sheet.case.kind))),
         ("equation", Json::from(sheet.equation)),
         ("source", Json::from(sheet.source)),
         ("emissions", Json::list(emissions)),
         ("documents", Json::Object(documents.collect())),
-    ])
+    ]);
+    sheet_json.and("note", note(sheet).map(Json::from))
 }
 
 fn factor_json(factor: &Factor) -> Json {
@@ -98,4 +112,16 @@ fn factor_json(factor: &Factor) -> Json {
         ("value", Json::from(factor.value.to_string())),
         ("source", Json::from(factor.source)),
     ])
+}
+
+#[cfg(test)]
+mod tests {
+    use super::*;
+
+    #[test]
+    fn a_document_is_named_by_its_number_alone() {
+        assert!(names("built from 001, worst case, l. 192–194", "001"));
+        assert!(names("000, Table 8, l. 777", "000"));
+        assert!(!names("002, Table 3, l. 1000", "000"));
+    }
 }

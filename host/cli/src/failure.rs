@@ -1,6 +1,7 @@
 //! Why a command gave no result, and the exit status for it.
 
 use crate::json::Json;
+use crate::output::Output;
 use csorvelin_binding::Refusal;
 use csorvelin_model::ranges::Violation;
 
@@ -10,6 +11,8 @@ pub enum Failure {
     Refused(Violation),
     /// The listing of what is no archive; its own line goes to standard output.
     ListRefused(Violation),
+    /// The listing of an archive that is sound but too long for it, which has the same number and line.
+    ListTooLong(Violation),
     Usage(String),
     Unreadable(String),
     /// Library and model differ, which the proofs exclude as long as the library and the requirements are those proved.
@@ -19,10 +22,15 @@ pub enum Failure {
     Locked(String),
 }
 
+/// Exit status for a record whose figures are not its case's.
+pub const WRONG_RECORD: u8 = 65;
+
 impl Failure {
-    pub fn status(&self) -> u8 {
+    fn status(&self) -> u8 {
         match self {
-            Failure::Refused(violation) | Failure::ListRefused(violation) => violation.number as u8,
+            Failure::Refused(violation) | Failure::ListRefused(violation) | Failure::ListTooLong(violation) => {
+                violation.number as u8
+            }
             Failure::Usage(_) => 64,
             Failure::Unreadable(_) => 66,
             Failure::Disagreement(_) => 70,
@@ -32,24 +40,56 @@ impl Failure {
         }
     }
 
-    pub fn text(&self) -> String {
+    /// Says why there is no result: on standard error, or as JSON on standard output.
+    pub fn output(&self, json: bool) -> Output {
+        let status = self.status();
+        if json {
+            return Output { out: format!("{}\n", self.json()), err: String::new(), status };
+        }
+        let out = match self {
+            Failure::ListRefused(_) | Failure::ListTooLong(_) => "refused 21\n".to_string(),
+            _ => String::new(),
+        };
+        Output { out, err: self.text(), status }
+    }
+
+    /// The refusal of a case that a record holds.
+    pub fn in_record(self, number: u64) -> Failure {
         match self {
-            Failure::Refused(violation) | Failure::ListRefused(violation) => format!(
-                "refused {}: {}\n  field    {}\n  found    {}\n  allowed  {}\n",
-                violation.number,
-                words(violation),
-                violation.field,
-                violation.found,
-                violation.allowed
-            ),
-            Failure::Usage(message) => format!("csorvelin: {message}\nTry: csorvelin help\n"),
-            _ => format!("csorvelin: {}\n", self.message()),
+            Failure::Refused(violation) => {
+                let field = format!("{} of record {number}", violation.field);
+                Failure::Refused(Violation { field, ..violation })
+            }
+            other => other,
+        }
+    }
+
+    fn violation(&self) -> Option<&Violation> {
+        match self {
+            Failure::Refused(violation) | Failure::ListRefused(violation) | Failure::ListTooLong(violation) => {
+                Some(violation)
+            }
+            _ => None,
+        }
+    }
+
+    fn text(&self) -> String {
+        let message = self.message();
+        match (self, self.violation()) {
+            (_, Some(Violation { number, field, found, allowed })) => {
+                format!("refused {number}: {message}\n  field    {field}\n  found    {found}\n  allowed  {allowed}\n")
+            }
+            (Failure::Usage(_), None) => format!("csorvelin: {message}\nTry: csorvelin help\n"),
+            _ => format!("csorvelin: {message}\n"),
         }
     }
 
     fn message(&self) -> &str {
         match self {
-            Failure::Refused(violation) | Failure::ListRefused(violation) => words(violation),
+            Failure::Refused(violation) | Failure::ListRefused(violation) => {
+                Refusal::from_number(violation.number).map_or("refused", Refusal::words)
+            }
+            Failure::ListTooLong(_) => "the archive is longer than the listing takes",
             Failure::Usage(message)
             | Failure::Unreadable(message)
             | Failure::Disagreement(message)
@@ -59,22 +99,16 @@ impl Failure {
         }
     }
 
-    pub fn json(&self) -> Json {
-        match self {
-            Failure::Refused(violation) | Failure::ListRefused(violation) => Json::object([
-                ("refused", Json::from(violation.number)),
-                ("words", Json::from(words(violation))),
-                ("field", Json::from(violation.field.as_str())),
-                ("found", Json::from(violation.found.as_str())),
-                ("allowed", Json::from(violation.allowed.as_str())),
+    fn json(&self) -> Json {
+        match self.violation() {
+            Some(Violation { number, field, found, allowed }) => Json::object([
+                ("refused", Json::from(*number)),
+                ("words", Json::from(self.message())),
+                ("field", Json::from(field.as_str())),
+                ("found", Json::from(found.as_str())),
+                ("allowed", Json::from(allowed.as_str())),
             ]),
-            _ => {
-                Json::object([("error", Json::from(u32::from(self.status()))), ("message", Json::from(self.message()))])
-            }
+            None => Json::object([("error", Json::from(self.status())), ("message", Json::from(self.message()))]),
         }
     }
-}
-
-fn words(violation: &Violation) -> &'static str {
-    Refusal::from_number(violation.number).map_or("refused", Refusal::words)
 }

@@ -13,18 +13,22 @@ csorvelin: daily emissions of preservatives, worked out exactly and filed
   csorvelin new ARCHIVE                 a new archive file
   csorvelin file ARCHIVE CASE           works a case out and files it
   csorvelin show ARCHIVE NUMBER         a record, numbered from 0; --out FILE writes its case
-  csorvelin list ARCHIVE                all records, figures in mg; beyond 65,536 bytes with --all only
+  csorvelin list ARCHIVE                all records, figures in mg (--json: µg); refuses an archive over 65,536 bytes,
+                                        with --json too, unless --all is given
   csorvelin worst ARCHIVE COMPARTMENT   the record with the highest figure: stp, surface, air or soil (1 to 4)
   csorvelin defaults                    the default tables with their sources
   csorvelin help [kinds]                this page; the kinds with their fields, limits and equations
 
 CASE is fields such as  kind=4 row=1 dossier=7 a=100 c=1  or  --case FILE  with 64 bytes.
-Fields are kind, row, route, user, T, dossier and a to f. Route is 1 unless given, the others 0.
+Fields are kind, row, route, user, T, dossier and a to f. Route is 1 unless given, the others 0; a quantity that the kind
+carries and that is not given is counted as 0, and the answer says so.
 Quantities are decimals (0.71, 1e-3), taken as the nearest binary64 number, or patterns (0x3fe6b851eb851eb8).
 ARCHIVE may be - (standard input) where it is only read. --json gives every answer as JSON, 64-bit numbers as strings.
+show, list and worst print what a record holds; explain checks it.
 
-Exit status: 0; a refusal's number (1 to 12, 21 to 24); 64 usage; 66 file not readable; 70 library and model differ, or
-a record's figures are not its case's; 73 file not created; 74 file not written; 75 archive locked by another writer.
+Exit status: 0; a refusal's number (1 to 12, 21 to 24); 64 usage; 65 a record's figures are not its case's (explain);
+66 file not readable; 70 library and model differ; 73 file not created; 74 file not written; 75 archive locked by
+another writer.
 ";
 
 pub fn overview() -> String {
@@ -55,7 +59,24 @@ fn kind(kind: u8) -> String {
         let name = QUANTITIES[listed.index];
         text += &format!("  {name}  {}, 0 to {}{unit}{only}\n", listed.meaning, listed.limit);
     }
+    for remark in scope(kind) {
+        text += &format!("  {remark}\n");
+    }
     text
+}
+
+const DOWNTOWN: &str = "The city is paved downtown only (001, l. 66–69).";
+
+/// What a kind does not cover, or covers only with evidence.
+fn scope(kind: u8) -> &'static [&'static str] {
+    match kind {
+        1 | 2 => &[DOWNTOWN, "A share below 1 needs tonnage data (001, l. 107–108)."],
+        3 => &[
+            DOWNTOWN,
+            "B is for brush and roller; spraying loses 0.1 + 0.2 (000, Table 17, l. 1074–1075) and is not covered.",
+        ],
+        _ => &[],
+    }
 }
 
 fn routes_and_users(kind: u8) -> &'static str {

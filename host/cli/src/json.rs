@@ -3,6 +3,7 @@
 use std::fmt;
 
 pub enum Json {
+    Truth(bool),
     Number(u32),
     Text(String),
     List(Vec<Json>),
@@ -14,8 +15,25 @@ impl Json {
         Json::Object(entries.into_iter().map(|(key, value)| (key.to_string(), value)).collect())
     }
 
+    /// The object with one more entry, where there is a value for it.
+    pub fn and(self, key: &str, value: Option<Json>) -> Json {
+        match self {
+            Json::Object(mut entries) => {
+                entries.extend(value.map(|value| (key.to_string(), value)));
+                Json::Object(entries)
+            }
+            other => other,
+        }
+    }
+
     pub fn list(items: impl IntoIterator<Item = Json>) -> Json {
         Json::List(items.into_iter().collect())
+    }
+}
+
+impl From<bool> for Json {
+    fn from(value: bool) -> Json {
+        Json::Truth(value)
     }
 }
 
@@ -52,6 +70,7 @@ impl From<String> for Json {
 impl fmt::Display for Json {
     fn fmt(&self, f: &mut fmt::Formatter) -> fmt::Result {
         match self {
+            Json::Truth(value) => write!(f, "{value}"),
             Json::Number(value) => write!(f, "{value}"),
             Json::Text(text) => quoted(f, text),
             Json::List(items) => {

@@ -11,46 +11,33 @@ mod failure;
 mod help;
 mod json;
 mod numbers;
+mod output;
 mod refusals;
 mod steps;
 mod store;
 
 use arguments::Arguments;
 use failure::Failure;
+use output::Output;
 use std::io::{self, Write};
 use std::process::ExitCode;
 
 fn main() -> ExitCode {
     let words: Vec<String> = match std::env::args_os().skip(1).map(|word| word.into_string()).collect() {
         Ok(words) => words,
-        Err(word) => return report(&Failure::Usage(format!("{word:?} is not UTF-8")), false),
+        Err(word) => return leave(&Failure::Usage(format!("{word:?} is not UTF-8")).output(false)),
     };
     let json = words.iter().any(|word| word == "--json");
-    let outcome = Arguments::parse(words).and_then(|arguments| commands::run(&arguments));
-    match outcome {
-        Ok(text) => print(&text),
-        Err(failure) => report(&failure, json),
-    }
+    let answer = Arguments::parse(words).and_then(|arguments| commands::run(&arguments));
+    leave(&answer.unwrap_or_else(|failure| failure.output(json)))
 }
 
-fn print(text: &str) -> ExitCode {
+fn leave(output: &Output) -> ExitCode {
+    // Where standard error is closed there is nobody to tell.
+    let _ = io::stderr().write_all(output.err.as_bytes());
     let mut out = io::stdout().lock();
-    match out.write_all(text.as_bytes()).and_then(|()| out.flush()) {
-        Ok(()) => ExitCode::SUCCESS,
-        Err(error) => report(&Failure::NotWritten(format!("standard output: {error}")), false),
+    match out.write_all(output.out.as_bytes()).and_then(|()| out.flush()) {
+        Ok(()) => ExitCode::from(output.status),
+        Err(error) => leave(&Failure::NotWritten(format!("standard output: {error}")).output(false)),
     }
-}
-
-/// Says why there is no result: on standard error, or as JSON on standard output.
-fn report(failure: &Failure, json: bool) -> ExitCode {
-    if json {
-        print(&format!("{}\n", failure.json()));
-    } else {
-        // What is meant for standard output beside a refusal: the listing's own line.
-        if let Failure::ListRefused(_) = failure {
-            print("refused 21\n");
-        }
-        eprint!("{}", failure.text());
-    }
-    ExitCode::from(failure.status())
 }

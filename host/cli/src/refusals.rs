@@ -2,6 +2,7 @@
 
 use crate::failure::Failure;
 use csorvelin_binding::{Archive, Refusal};
+use csorvelin_model::archive;
 use csorvelin_model::case::same_filing;
 use csorvelin_model::ranges::{self, Violation};
 
@@ -21,11 +22,15 @@ pub fn refused(refusal: Refusal, field: &str, found: String, allowed: String) ->
     Failure::Refused(Violation { number: refusal.number(), field: field.to_string(), found, allowed })
 }
 
-pub fn not_an_archive(path: &str, bytes: usize) -> Violation {
+/// Refusal 21 of some bytes, with the trailer as it was found and the first point that is wrong.
+pub fn not_an_archive(path: &str, bytes: &[u8]) -> Violation {
+    let trailer = archive::trailer_fields(bytes)
+        .map(|[distance, n, edition]| format!("; distance {distance}, n {n}, edition {edition}"));
+    let fault = archive::fault(bytes).unwrap_or("the model finds no fault".to_string());
     Violation {
         number: Refusal::NotAnArchive.number(),
         field: format!("archive {path}"),
-        found: format!("{bytes} bytes whose length or last 16 bytes are not an archive's"),
+        found: format!("{} bytes{} ({fault})", bytes.len(), trailer.unwrap_or_default()),
         allowed: "96·n + 16 bytes, the last 16 being 96·n, n (at most 1000000) and the edition 1".to_string(),
     }
 }

@@ -69,11 +69,82 @@ fn refusals_from_the_state() {
 #[test]
 fn a_record_whose_figures_were_changed_is_found_by_explain() {
     let place = Place::new("changed_record");
-    let mut bytes = archive_of(1, &mut Random::new(301));
+    let mut bytes = with(&archive::trailer(0), &p1());
     bytes[64] ^= 1;
     place.write("archive", &bytes);
+    let fault = "the record holds [76923076, 0, 0, 0] µg, its case gives [76923077, 0, 0, 0] µg";
     let ran = place.run(&["explain", "archive", "0"]);
-    assert!(ran.ends(70).err.starts_with("csorvelin: the record holds ["), "{}", ran.err);
+    assert_eq!(ran.ends(65).err, format!("csorvelin: {fault}\n"));
+    assert!(ran.out.contains("  = 1/13 kg per day\n"), "{}", ran.out);
+    assert!(ran.out.ends_with(&format!("\nChecked: {fault}.\n")), "{}", ran.out);
+    let ran = place.run(&["explain", "archive", "0", "--json"]);
+    assert!(ran.ends(65).out.ends_with(&record_json("76923076", fault)), "{}", ran.out);
+    // Those that print what a record holds do not check it.
+    for words in [&["show", "archive", "0"][..], &["list", "archive"], &["worst", "archive", "1"]] {
+        place.run(words).ends(0);
+    }
+}
+
+/// The case of P1.
+fn p1() -> Case {
+    let patterns = [100f64, 0., 1., 0., 0., 0.].map(f64::to_bits);
+    Case { kind: 4, row: 1, route: 1, user: 0, count: 0, dossier: 7, patterns }
+}
+
+/// How a record's sheet ends in JSON: its number, what it holds for the STP, and the check.
+fn record_json(stp: &str, check: &str) -> String {
+    let stored = format!("{{\"stp\":\"{stp}\",\"surface\":\"0\",\"air\":\"0\",\"soil\":\"0\"}}");
+    format!(",\"record\":\"0\",\"stored\":{stored},\"check\":\"{check}\"}}\n")
+}
+
+#[test]
+fn a_sound_record_explained_as_json() {
+    let place = Place::new("sound_record");
+    place.write("archive", &with(&archive::trailer(0), &p1()));
+    let ran = place.run(&["explain", "archive", "0", "--json"]);
+    let check = "the library and the model give the same four figures, and the record holds them";
+    assert!(ran.ends(0).out.ends_with(&record_json("76923077", check)), "{}", ran.out);
+}
+
+#[test]
+fn a_record_whose_case_is_refused_is_named() {
+    let place = Place::new("refused_record");
+    let mut bytes = archive_of(2, &mut Random::new(301));
+    bytes[96] = 0;
+    place.write("archive", &bytes);
+    let ran = place.run(&["explain", "archive", "1"]);
+    assert!(ran.ends(2).err.contains("  field    kind of record 1\n"), "{}", ran.err);
+}
+
+#[test]
+fn refusal_21_names_the_point_that_is_wrong() {
+    let place = Place::new("wrong_points");
+    let sound = archive_of(2, &mut Random::new(306));
+    // The byte that is changed, its new value, and what is said of it.
+    let changes = [
+        (204, 2, "208 bytes; distance 192, n 2, edition 2 (edition 2 is not 1)"),
+        (192, 191, "208 bytes; distance 191, n 2, edition 1 (distance 191 is not 96·2)"),
+    ];
+    let mut files: Vec<(Vec<u8>, &str)> = vec![
+        (sound[1..].to_vec(), "207 bytes; distance 192, n 2, edition 1 (207 is not 96·n + 16)"),
+        (sound[96..].to_vec(), "112 bytes; distance 192, n 2, edition 1 (112 is not 96·2 + 16)"),
+        (sound[..15].to_vec(), "15 bytes (fewer than the trailer's 16)"),
+        (vec![], "0 bytes (fewer than the trailer's 16)"),
+        (archive::trailer(1_000_000), "16 bytes; distance 96000000, n 1000000, edition 1 (16 is not 96·1000000 + 16)"),
+        (archive::trailer(1_000_001), "16 bytes; distance 96000096, n 1000001, edition 1 (n 1000001 is over 1000000)"),
+    ];
+    for (place, value, found) in changes {
+        let mut bytes = sound.clone();
+        bytes[place] = value;
+        files.push((bytes, found));
+    }
+    for (bytes, found) in files {
+        place.write("archive", &bytes);
+        for words in [&["show", "archive", "0"][..], &["list", "archive"]] {
+            let ran = place.run(words);
+            assert!(ran.ends(21).err.contains(&format!("  found    {found}\n")), "{found}\n{}", ran.err);
+        }
+    }
 }
 
 #[test]
@@ -126,7 +197,25 @@ fn list_prints_what_the_requirements_say() {
         ran.ends(if n == 683 { 21 } else { 0 });
         let all = place.run(&["list", "--all", "archive"]);
         assert_eq!(all.ends(0).out.lines().count() as u64, n + 1);
+        let json = place.run(&["list", "--all", "--json", "archive"]);
+        assert_eq!(json.ends(0).out.matches("\"case\"").count() as u64, n);
     }
+}
+
+#[test]
+fn an_archive_too_long_to_list_is_not_called_damaged() {
+    let place = Place::new("too_long");
+    let words = "the archive is longer than the listing takes";
+    for (n, status) in [(682, 0), (683, 21)] {
+        place.write("archive", &archive_of(n, &mut Random::new(307)));
+        place.run(&["list", "archive"]).ends(status);
+        place.run(&["list", "archive", "--json"]).ends(status);
+    }
+    let ran = place.run(&["list", "archive"]);
+    assert!(ran.err.starts_with(&format!("refused 21: {words}\n")), "{}", ran.err);
+    assert_eq!(ran.out, "refused 21\n");
+    let ran = place.run(&["list", "archive", "--json"]);
+    assert!(ran.out.starts_with(&format!("{{\"refused\":21,\"words\":\"{words}\",")), "{}", ran.out);
 }
 
 /// The stored run of the proved program `list`, in the repository that this workspace is part of.

@@ -17,7 +17,7 @@ row      1  defaults of the document
 route    1  to the sewage treatment plant (STP)
 dossier  7
 a        100 (0x4059000000000000)  EU tonnage, t per year
-b        0 (0x0000000000000000)  fraction disintegrated
+b        0 (not given, counted as 0)  fraction disintegrated
 c        1 (0x3ff0000000000000)  fraction to water
 
 stp      76923077 µg per day = 76923.077 mg = 0.076923077 kg
@@ -26,7 +26,60 @@ air      0 µg per day = 0.000 mg = 0.000000000 kg
 soil     0 µg per day = 0.000 mg = 0.000000000 kg
 ";
     ran.ends(0);
-    assert_eq!((ran.out.as_str(), ran.err.as_str()), (expected, ""));
+    assert_eq!((ran.out.as_str(), ran.err.as_str()), (expected, NOTE));
+}
+
+/// What is said of P1's fraction that is not typed.
+const NOTE: &str = "csorvelin: note: b (fraction disintegrated) is not given and counts as 0\n";
+const MARK: &str = "b        0 (not given, counted as 0)  fraction disintegrated\n";
+
+#[test]
+fn a_quantity_that_is_not_given_is_never_silent() {
+    let place = Place::new("not_given");
+    place.run(&["new", "archive"]).ends(0);
+    let commands: [(&[&str], &str); 4] = [
+        (&["work-out"], NOTE),
+        (&["case", "--out", "p1.case"], NOTE),
+        (&["file", "archive"], NOTE),
+        (&["explain"], ""),
+    ];
+    for (command, note) in commands {
+        let ran = place.run(&[command, &P1[..]].concat());
+        assert_eq!((ran.ends(0).out.matches("not given").count(), ran.err.as_str()), (1, note), "{command:?}");
+        assert!(ran.out.contains(MARK), "{}", ran.out);
+    }
+    // The same bytes from a file or a record were not typed, so nothing of them was forgotten.
+    let by_other_ways: [&[&str]; 3] =
+        [&["work-out", "--case", "p1.case"], &["show", "archive", "0"], &["explain", "archive", "0"]];
+    for words in by_other_ways {
+        let ran = place.run(words);
+        assert!(ran.ends(0).out.contains("b        0 (0x0000000000000000)  fraction disintegrated\n"), "{}", ran.out);
+        assert_eq!(ran.err, "");
+    }
+    // Each one that the kind and row carry, and no other.
+    let ran = place.run(&["work-out", "kind=6", "dossier=7", "b=1", "e=0"]);
+    let noted: Vec<&str> = ran.ends(0).err.lines().map(|line| line.split(' ').nth(2).unwrap()).collect();
+    assert_eq!(noted, ["a", "d", "f"]);
+}
+
+#[test]
+fn json_says_which_quantities_were_given() {
+    let place = Place::new("not_given_json");
+    let ran = place.run(&[&["work-out", "--json"], &P1[..]].concat());
+    assert_eq!(ran.ends(0).err, NOTE);
+    assert!(
+        ran.out.contains("\"a\":{\"pattern\":\"0x4059000000000000\",\"exact\":\"100\",\"given\":true}"),
+        "{}",
+        ran.out
+    );
+    assert!(
+        ran.out.contains("\"b\":{\"pattern\":\"0x0000000000000000\",\"exact\":\"0\",\"given\":false}"),
+        "{}",
+        ran.out
+    );
+    place.run(&[&["case", "--out", "p1.case"], &P1[..]].concat()).ends(0);
+    let ran = place.run(&["work-out", "--json", "--case", "p1.case"]);
+    assert!(!ran.ends(0).out.contains("given"), "{}", ran.out);
 }
 
 #[test]
@@ -68,8 +121,8 @@ To air: no equation, figure 0
 
 To soil: no equation, figure 0
 
-002  Emission Scenario Document for Product Type 2, private and public health area disinfectants, EUR 25115 EN, \
-Joint Research Centre, 2011
+002  Emission Scenario Document for Product Type 2, Private and public health area disinfectants and other biocidal \
+products, EUR 25115 EN, JRC, 2011, ISBN 978-92-79-22399-0, doi:10.2788/29058
 
 Checked: the library and the model give the same four figures.
 ";
@@ -98,12 +151,52 @@ fn sheets_of_every_kind_name_the_exact_fraction() {
     }
 }
 
+#[test]
+fn sheets_say_what_no_document_prints() {
+    let place = Place::new("explain_sources");
+    let leaching = place.run(&["explain", "kind=2", "row=3", "dossier=7", "a=1", "c=1"]);
+    let parts = [
+        "[built from 001, worst case, l. 192–194, and the symbols listed there, l. 196–213; the printed equation is missing",
+        "[in no document; from V in L/m2 (001, Table 2, l. 227) and R in kg/m3 (l. 226)]",
+        "service life, days  [001, Table 1, l. 162–164, and Table 2, l. 238–239]",
+        "\n\n001  \"Leaching from paints, plasters, and fillers applied in urban areas\" (the city scenario)",
+    ];
+    for part in parts {
+        assert!(leaching.ends(0).out.contains(part), "{part}\n{}", leaching.out);
+    }
+    assert!(!leaching.out.contains("\n000  "), "a document that the sheet does not name\n{}", leaching.out);
+    let hygiene = place.run(&["explain", "kind=6", "row=1", "dossier=7", "a=1", "b=1"]);
+    for part in ["l. 2020; grams by Table 8, l. 753]", "[000, Table 8, l. 777: 10^-6 with C in g/kg (l. 747)]"] {
+        assert!(hygiene.ends(0).out.contains(part), "{part}\n{}", hygiene.out);
+    }
+}
+
+/// Row 7's volume is for another area than row 7's: said wherever the two are multiplied.
+#[test]
+fn row_7_is_said_to_be_low() {
+    let place = Place::new("row_7");
+    let low = "25/7 times as high";
+    let sheet = |kind: &str, row: &str, json: &str| {
+        let user = if kind == "kind=3" { "user=1" } else { "user=0" };
+        let mut words = vec!["explain", kind, row, user, "dossier=7", "a=0.5"];
+        words.extend((!json.is_empty()).then_some(json));
+        place.run(&words).ends(0).out.contains(low)
+    };
+    for json in ["", "--json"] {
+        assert!(sheet("kind=2", "row=7", json) && sheet("kind=3", "row=7", json));
+        assert!(!sheet("kind=1", "row=7", json) && !sheet("kind=2", "row=6", json));
+    }
+    for words in [&["defaults"][..], &["defaults", "--json"]] {
+        assert_eq!(place.run(words).ends(0).out.matches(low).count(), 1);
+    }
+}
+
 /// Each refusal from the input: number as exit status, field, what was found and what is allowed.
 #[test]
 fn refusals_name_the_field_and_what_is_allowed() {
     let place = Place::new("refusals");
     place.write("short", &[4; 63]);
-    let refusals: [(&[&str], i32, &str, &str); 11] = [
+    let refusals: [(&[&str], i32, &str, &str); 13] = [
         (&["--case", "short"], 1, "63 bytes", "exactly 64 bytes"),
         (&["kind=8"], 2, "8", "1 to 7"),
         (&["kind=6", "row=6"], 3, "6", "0 to 5 for kind 6"),
@@ -111,7 +204,14 @@ fn refusals_name_the_field_and_what_is_allowed() {
         (&["kind=3", "row=3"], 5, "0", "1 (professional) or 2 (not professional) for kind 3"),
         (&["kind=1", "T=30"], 6, "30", "31 to 36500 for kind 1 row 0 (service life in days)"),
         (&["kind=4", "row=1"], 7, "0", "1 or more"),
-        (&["kind=4", "row=1", "dossier=7", "f=-0"], 8, "its sign bit is set", "a finite number from 0"),
+        (&["kind=4", "row=1", "dossier=7", "f=-0"], 8, "-0 (0x8000000000000000), its sign bit is set", "a finite"),
+        (&["kind=4", "row=1", "dossier=7", "a=-1.5"], 8, "-1.5 (0xbff8000000000000), its sign bit is set", "a finite"),
+        (
+            &["kind=4", "row=1", "dossier=7", "a=0x7ff0000000000000"],
+            8,
+            "infinity (0x7ff0000000000000), its exponent field is 2047",
+            "a finite number from 0",
+        ),
         (&["kind=2", "row=3", "dossier=7", "b=1"], 9, "1", "zero: kind 2 row 3 carries a, c and no other quantity"),
         (&["kind=7", "row=1", "dossier=7", "c=5.5"], 10, "5.5", "0 to 5 kg per litre for kind 7 (density)"),
         (&["kind=5", "T=1", "dossier=7", "c=0.75", "d=0.5"], 11, "1.25", "at most 1"),
@@ -122,7 +222,7 @@ fn refusals_name_the_field_and_what_is_allowed() {
             ran.ends(number);
             assert_eq!(ran.out, "");
             assert!(ran.err.starts_with(&format!("refused {number}: ")), "{}", ran.err);
-            assert!(ran.err.contains(&format!("found    {found}")) || ran.err.contains(found), "{}", ran.err);
+            assert!(ran.err.contains(&format!("found    {found}\n")), "{}", ran.err);
             assert!(ran.err.contains(&format!("allowed  {allowed}")), "{}", ran.err);
         }
         let json = place.run(&[&["work-out", "--json"], fields].concat());
@@ -133,14 +233,15 @@ fn refusals_name_the_field_and_what_is_allowed() {
 #[test]
 fn a_case_file_is_written_and_read_back() {
     let place = Place::new("case_file");
-    let ran = place.run(&[&["case", "--out", "p1.case"], &P1[..]].concat());
+    let whole = [&P1[..], &["b=0"]].concat();
+    let ran = place.run(&[&["case", "--out", "p1.case"], &whole[..]].concat());
     let hex = "04010100000000000700000000000000\
                00000000000059400000000000000000000000000000f03f000000000000000000000000000000000000000000000000";
     assert!(ran.ends(0).out.ends_with(&format!("bytes    {hex}\n")), "{}", ran.out);
     assert_eq!(place.read("p1.case").len(), 64);
     assert_eq!(place.names(), ["p1.case"]);
     let by_file = place.run(&["work-out", "--case", "p1.case"]);
-    assert_eq!(by_file.ends(0).out, place.run(&with("work-out", &P1)).out);
+    assert_eq!(by_file.ends(0).out, place.run(&with("work-out", &whole)).out);
     // An existing file is never written over.
     let before = place.read("p1.case");
     place.run(&["case", "kind=4", "row=1", "dossier=8", "--out", "p1.case"]).ends(73);
@@ -153,7 +254,6 @@ fn json_answers() {
     let ran = place.run(&[&["work-out", "--json"], &P1[..]].concat());
     let figures = "\"figures\":{\"stp\":\"76923077\",\"surface\":\"0\",\"air\":\"0\",\"soil\":\"0\"}}\n";
     assert!(ran.ends(0).out.ends_with(figures), "{}", ran.out);
-    assert!(ran.out.contains("\"a\":{\"pattern\":\"0x4059000000000000\",\"exact\":\"100\"}"));
     let ran = place.run(&[&["explain", "--json"], &P1[..]].concat());
     assert!(ran.ends(0).out.contains("\"kilograms\":\"1/13\",\"micrograms\":\"1000000000/13\""), "{}", ran.out);
     place.run(&["defaults", "--json"]).ends(0);
@@ -165,22 +265,37 @@ fn json_answers() {
 fn defaults_and_help() {
     let place = Place::new("defaults");
     let defaults = place.run(&["defaults"]);
-    for part in ["5.57", "001, defaults, l. 112", "0.71", "l. 2020", "version 6, 12 November 2015", "260"] {
+    for part in ["5.57", "list of advised defaults, l. 112", "0.71", "l. 2020", "version 6, 12 November 2015", "260"] {
         assert!(defaults.ends(0).out.contains(part), "{part}");
     }
-    for words in [&["help"][..], &["--help"], &["help", "work-out"], &["work-out", "--help"]] {
+    for words in [&["help"][..], &["--help"], &["help", "work-out"], &["work-out", "--help"], &["file", "z", "-h"]] {
         let help = place.run(words);
         for command in ["work-out", "explain", "case", "new", "file", "show", "list", "worst", "defaults", "help"] {
             assert!(help.ends(0).out.contains(&format!("csorvelin {command}")), "{command}");
         }
     }
-    assert!(place.run(&["help", "kinds"]).ends(0).out.contains("kind 7: chemical toilets"));
+    let kinds = place.run(&["help", "kinds"]);
+    let parts = [
+        "kind 7: chemical toilets",
+        "uses M per day, 0 to 100, row 0 only",
+        "spraying loses 0.1 + 0.2 (000, Table 17, l. 1074–1075) and is not covered",
+        "The city is paved downtown only (001, l. 66–69)",
+        "A share below 1 needs tonnage data (001, l. 107–108)",
+    ];
+    for part in parts {
+        assert!(kinds.ends(0).out.contains(part), "{part}\n{}", kinds.out);
+    }
+    for words in [&["help", "--json"][..], &["help", "kinds", "--json"], &["new", "--help", "--json"]] {
+        let ran = place.run(words);
+        assert!(ran.ends(0).out.starts_with("{\"help\":\"") && ran.out.ends_with("\"}\n"), "{}", ran.out);
+        assert_eq!(ran.out.lines().count(), 1);
+    }
 }
 
 #[test]
 fn usage_errors_end_with_64() {
     let place = Place::new("usage");
-    let wrong: [&[&str]; 22] = [
+    let wrong: [&[&str]; 27] = [
         &[],
         &["emit"],
         &["work-out"],
@@ -203,6 +318,11 @@ fn usage_errors_end_with_64() {
         &["show", "archive", "-1"],
         &["worst", "archive", "river"],
         &["list", "archive", "kind=4"],
+        &["help", "foo"],
+        &["help", "kinds", "list"],
+        &["help", "kind=4"],
+        &["new", "-"],
+        &["file", "-", "kind=4", "row=1", "dossier=7", "a=1", "c=1"],
     ];
     for words in wrong {
         let ran = place.run(words);
@@ -210,6 +330,8 @@ fn usage_errors_end_with_64() {
         assert!(ran.out.is_empty() && ran.err.contains("csorvelin help"), "{words:?}");
     }
     assert_eq!(place.names(), Vec::<String>::new());
+    let ran = place.run(&["file", "-", "kind=4"]);
+    assert!(ran.err.starts_with("csorvelin: file needs an archive file, not standard input\n"), "{}", ran.err);
     place.run(&["work-out", "--case", "missing"]).ends(66);
     place.run(&["list", "missing"]).ends(66);
     place.run(&["file", "missing", "kind=4", "row=1", "dossier=7"]).ends(66);

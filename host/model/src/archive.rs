@@ -25,21 +25,34 @@ pub fn trailer(n: u64) -> Vec<u8> {
     bytes
 }
 
+/// Distance, n and edition in the last 16 of some bytes; none where those are fewer.
+pub fn trailer_fields(archive: &[u8]) -> Option<[u64; 3]> {
+    let trailer = archive.last_chunk::<{ TRAILER_BYTES as usize }>()?;
+    Some([&trailer[0..8], &trailer[8..12], &trailer[12..16]].map(little_endian))
+}
+
+/// The first point in which some bytes, all of them used length, are no archive.
+pub fn fault(archive: &[u8]) -> Option<String> {
+    let length = archive.len() as u64;
+    let Some([distance, n, edition]) = trailer_fields(archive) else {
+        return Some(format!("fewer than the trailer's {TRAILER_BYTES}"));
+    };
+    // A length that no archive has comes first: what stands where the trailer should be means nothing then.
+    let points = [
+        ((length - TRAILER_BYTES) % RECORD_BYTES != 0, format!("{length} is not 96·n + 16")),
+        (edition != EDITION, format!("edition {edition} is not {EDITION}")),
+        (n > MOST_RECORDS, format!("n {n} is over {MOST_RECORDS}")),
+        (distance != RECORD_BYTES * n, format!("distance {distance} is not 96·{n}")),
+        (length != RECORD_BYTES * n + TRAILER_BYTES, format!("{length} is not 96·{n} + 16")),
+    ];
+    points.into_iter().find(|(holds, _)| *holds).map(|(_, words)| words)
+}
+
 /// The number of records, none where refusal 21 holds.
 pub fn count(buffer: &[u8], used: u64) -> Option<u64> {
-    if used > buffer.len() as u64 || used < TRAILER_BYTES {
-        return None;
-    }
-    let end = used as usize;
-    let trailer = &buffer[end - 16..end];
-    let distance = little_endian(&trailer[0..8]);
-    let n = little_endian(&trailer[8..12]);
-    let edition = little_endian(&trailer[12..16]);
-    let well_formed = edition == EDITION
-        && n <= MOST_RECORDS
-        && distance == RECORD_BYTES * n
-        && used == RECORD_BYTES * n + TRAILER_BYTES;
-    well_formed.then_some(n)
+    let archive = buffer.get(..usize::try_from(used).ok()?)?;
+    let [_, n, _] = trailer_fields(archive)?;
+    fault(archive).is_none().then_some(n)
 }
 
 fn record_at(buffer: &[u8], number: u64) -> &[u8] {

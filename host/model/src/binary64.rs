@@ -6,8 +6,12 @@ use std::cmp::Ordering;
 
 const SIGNIFICAND_BITS: u32 = 52;
 
+/// The sign bit, and the pattern of infinity.
+pub const SIGN: u64 = 1 << 63;
+pub const INFINITY: u64 = 2047 << SIGNIFICAND_BITS;
+
 pub fn sign(pattern: u64) -> bool {
-    pattern >> 63 == 1
+    pattern & SIGN != 0
 }
 
 pub fn exponent_field(pattern: u64) -> u32 {

@@ -107,11 +107,15 @@ pub fn equation(kind: u8) -> (&'static str, &'static str) {
             "E = recent·a·A/30 + older·b·A/(L − 30), recent = 4000·c·30/L, older = 4000·c·(L − 30)/L",
             "000, Table 19, l. 1180–1182",
         ),
-        2 => ("E = 4000·c·A·V·R·a/(1000·L)", "001, worst case, l. 192–194 and symbols, l. 196–213"),
-        3 => ("E = A·V·R·a·B·N/1000", "001, eq. (7), l. 271"),
+        2 => (
+            "E = 4000·c·A·V·R·a/(1000·L)",
+            "built from 001, worst case, l. 192–194, and the symbols listed there, l. 196–213; the printed equation is \
+             missing from the copy",
+        ),
+        3 => ("E = A·V·R·a·B·N/1000", "001, application phase, eq. (7), l. 271"),
         4 => ("E = a·0.1·1000·0.002·(1 − b)·c/D", "002, Table 3, l. 319"),
         5 => ("E = a·1000·b·c/T to water, a·1000·b·d/T to air, a·1000·b·e/T to soil", "000, 2.2.3, l. 501"),
-        6 => ("E = 10000·H·M·G·a·b/1000", "000, Table 8, l. 777"),
+        6 => ("E = 10000·H·M·G·a·b/1000", "000, Table 8, l. 777, with F_water 1 (l. 744)"),
         _ => ("E = a·c·b·20·(1 − d)·e·(2000/60)·N", "002, Table 7, l. 652–653"),
     }
 }
@@ -223,7 +227,7 @@ fn unknown(case: &Case) -> Chain {
         volume(case),
         density(case),
         quantity(case, 0),
-        default("1000", "litres in a cubic metre", tables::LITRES).dividing(),
+        default("1000", "litres in a cubic metre", tables::LITRES_LEACHING).dividing(),
         life(case).dividing(),
     ]
 }
@@ -244,7 +248,7 @@ fn application(case: &Case) -> Chain {
         quantity(case, 0),
         loss,
         houses,
-        default("1000", "litres in a cubic metre", tables::LITRES).dividing(),
+        default("1000", "litres in a cubic metre", tables::LITRES_APPLICATION).dividing(),
     ]
 }
 

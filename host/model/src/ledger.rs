@@ -1,5 +1,5 @@
-//! The ledger behind a history: a list of lines, each a case and its figures. It is fed the buffer's size and the
-//! arguments other than the archive and the used length, and reads no byte of the archive.
+//! The ledger that a history is held against: what was filed, kept in a plain list. No buffer reaches it, only sizes,
+//! cases and figures, so damage to an archive cannot hide in it.
 
 use crate::archive::{record, trailer, MOST_RECORDS};
 use crate::case::same_filing;

@@ -147,7 +147,7 @@ fn listed_in_row_0(kind: u8) -> Vec<Listed> {
         2 | 3 => vec![AREA, VOLUME, DENSITY],
         6 => vec![
             quantity(D, "amount G per use", "g", 10_000),
-            quantity(E, "uses M per day", "per day", 100),
+            quantity(E, "uses M per day", "", 100),
             fraction(F, "share H of the inhabitants"),
         ],
         _ => vec![],
@@ -257,12 +257,8 @@ fn dossier_zero(case: &Case) -> Option<Violation> {
 fn pattern_not_allowed(case: &Case) -> Option<Violation> {
     let index = case.patterns.iter().position(|&pattern| !binary64::is_quantity(pattern))?;
     let pattern = case.patterns[index];
-    let fault = if binary64::sign(pattern) {
-        "its sign bit is set"
-    } else {
-        "its exponent field is 2047, infinity or not a number"
-    };
-    let found = format!("{pattern:#018x}, {fault}");
+    let fault = if binary64::sign(pattern) { "its sign bit is set" } else { "its exponent field is 2047" };
+    let found = format!("{} ({pattern:#018x}), {fault}", written_with_sign(pattern));
     let allowed = "a finite number from 0, without a sign (minus zero is not allowed)";
     violated(8, &QUANTITIES[index].to_string(), found, allowed.to_string())
 }
@@ -303,6 +299,19 @@ fn rounded_release(case: &Case) -> u64 {
     binary64::rounded_sum(binary64::rounded_sum(c, d), e)
 }
 
+/// Any pattern's value for a message.
+fn written_with_sign(pattern: u64) -> String {
+    let magnitude = pattern & !binary64::SIGN;
+    let sign = if binary64::sign(pattern) { "-" } else { "" };
+    if binary64::is_quantity(magnitude) {
+        format!("{sign}{}", written(magnitude))
+    } else if magnitude == binary64::INFINITY {
+        format!("{sign}infinity")
+    } else {
+        "not a number".to_string()
+    }
+}
+
 /// A quantity's exact value for a message: all digits of the decimal, or a fraction where those are many.
 fn written(pattern: u64) -> String {
     let value = binary64::exact(pattern);
@@ -312,6 +321,13 @@ fn written(pattern: u64) -> String {
 #[cfg(test)]
 mod tests {
     use super::*;
+
+    #[test]
+    fn patterns_that_are_no_quantity() {
+        let patterns = [-1.5, -0., f64::INFINITY, f64::NEG_INFINITY, f64::NAN].map(f64::to_bits);
+        let words = ["-1.5", "-0", "infinity", "-infinity", "not a number"];
+        assert_eq!(patterns.map(written_with_sign), words);
+    }
 
     #[test]
     fn a_case_of_another_length_is_refused_first() {

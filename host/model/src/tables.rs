@@ -12,13 +12,13 @@ pub const DOCUMENTS: [(&str, &str); 3] = [
     ),
     (
         "001",
-        "Proposal for the emission from preservatives in paints, coatings, wood, polymerised materials and masonry in \
-         urban areas (the city scenario), version 6, 12 November 2015",
+        "\"Leaching from paints, plasters, and fillers applied in urban areas\" (the city scenario), proposal of the \
+         Netherlands (Ctgb), version 6, 12 November 2015",
     ),
     (
         "002",
-        "Emission Scenario Document for Product Type 2, private and public health area disinfectants, EUR 25115 EN, \
-         Joint Research Centre, 2011",
+        "Emission Scenario Document for Product Type 2, Private and public health area disinfectants and other \
+         biocidal products, EUR 25115 EN, JRC, 2011, ISBN 978-92-79-22399-0, doi:10.2788/29058",
     ),
 ];
 
@@ -40,27 +40,31 @@ const fn default(decimal: &'static str, source: &'static str) -> DefaultValue {
 }
 
 pub const HOUSES: DefaultValue = default("4000", "001, The city scenario, l. 85");
-pub const RECENT_DAYS: DefaultValue = default("30", "001, symbols, l. 123");
-pub const LITRES: DefaultValue = default("1000", "000, Table 18, l. 1142");
-pub const LOSS_PROFESSIONAL: DefaultValue = default("0.03", "001, symbols, l. 286–287");
-pub const LOSS_OTHER: DefaultValue = default("0.05", "001, symbols, l. 286–287");
+pub const RECENT_DAYS: DefaultValue = default("30", "001, normal case, list under the missing equations, l. 123");
+pub const LITRES_LEACHING: DefaultValue =
+    default("1000", "in no document; from V in L/m2 (001, Table 2, l. 227) and R in kg/m3 (l. 226)");
+pub const LITRES_APPLICATION: DefaultValue = default("1000", "000, Table 18, l. 1142");
+const LOSSES: &str = "001, application phase, list under eq. (7), l. 286–287";
+pub const LOSS_PROFESSIONAL: DefaultValue = default("0.03", LOSSES);
+pub const LOSS_OTHER: DefaultValue = default("0.05", LOSSES);
 pub const REGION: DefaultValue = default("0.1", "002, Table 3, l. 303");
 pub const KILOGRAMS_SANITARY: DefaultValue = default("1000", "002, Table 3, l. 319");
 pub const MAIN_SOURCE: DefaultValue = default("0.002", "002, Table 3, l. 306");
 pub const EMISSION_DAYS: DefaultValue = default("260", "002, 2.1.4.2, l. 293");
 pub const KILOGRAMS_FORMULATION: DefaultValue = default("1000", "000, 2.2.3, l. 501");
 pub const INHABITANTS: DefaultValue = default("10000", "000, Table 8, l. 743");
-pub const GRAMS: DefaultValue = default("1000", "000, Table 8, l. 777");
+pub const GRAMS: DefaultValue = default("1000", "000, Table 8, l. 777: 10^-6 with C in g/kg (l. 747)");
 pub const PRECHARGE_LITRES: DefaultValue = default("20", "002, Table 7, l. 642");
 pub const WAGON_LITRES: DefaultValue = default("2000", "002, Table 7, l. 644");
 pub const TOILET_LITRES: DefaultValue = default("60", "002, Table 7, l. 643");
 pub const WAGONS: DefaultValue = default("1", "002, Table 7, l. 645");
 
 /// The defaults of the equations outside the row tables: kinds, symbol, meaning.
-pub const CONSTANTS: [(&str, &str, DefaultValue); 16] = [
+pub const CONSTANTS: [(&str, &str, DefaultValue); 17] = [
     ("1, 2", "houses in the city", HOUSES),
     ("1", "days counted as recent", RECENT_DAYS),
-    ("2, 3", "litres in a cubic metre (divisor)", LITRES),
+    ("2", "litres in a cubic metre (divisor)", LITRES_LEACHING),
+    ("3", "litres in a cubic metre (divisor)", LITRES_APPLICATION),
     ("3", "B, share lost in application, professional user", LOSS_PROFESSIONAL),
     ("3", "B, share lost in application, other user", LOSS_OTHER),
     ("4", "fraction of the EU tonnage for the region", REGION),
@@ -76,7 +80,8 @@ pub const CONSTANTS: [(&str, &str, DefaultValue); 16] = [
     ("7", "N, tank wagons per day, row 1", WAGONS),
 ];
 
-/// A row of the city tables (document 001, Tables 1 and 2).
+/// A row of the city tables of document 001: kind 1 goes by Table 1, kinds 2 and 3 by Table 2 (l. 197, 206, 277), which
+/// agree in L and A but for row 4's misprint.
 #[derive(Clone, Copy, Debug)]
 pub struct CityRow {
     pub row: u8,
@@ -93,15 +98,15 @@ pub struct CityRow {
     pub houses: DefaultValue,
 }
 
-const THREE_HOUSES: DefaultValue = default("3", "001, Application phase, l. 294–296");
-const ONE_HOUSE: DefaultValue = default("1", "001, Application phase, l. 296");
+const THREE_HOUSES: DefaultValue = default("3", "001, application phase, l. 291–296");
+const ONE_HOUSE: DefaultValue = default("1", "001, application phase, l. 296");
 
 pub const CITY_ROWS: [CityRow; 7] = [
     CityRow {
         row: 1,
         name: "bathroom joint filler",
-        life: default("3650", "001, Table 1, l. 154–155"),
-        area: default("0.24", "001, Table 1, l. 154–155"),
+        life: default("3650", "001, Table 1, l. 154–155, and Table 2, l. 232–234"),
+        area: default("0.24", "001, Table 1, l. 154–155, and Table 2, l. 232–234"),
         density: default("1900", "001, Table 2, l. 232–234"),
         volume: default("0.42", "001, Table 2, l. 232–234"),
         houses: ONE_HOUSE,
@@ -109,8 +114,8 @@ pub const CITY_ROWS: [CityRow; 7] = [
     CityRow {
         row: 2,
         name: "bathroom sealant",
-        life: default("3650", "001, Table 1, l. 157–158"),
-        area: default("0.12", "001, Table 1, l. 157–158"),
+        life: default("3650", "001, Table 1, l. 157–158, and Table 2, l. 235"),
+        area: default("0.12", "001, Table 1, l. 157–158, and Table 2, l. 235"),
         density: default("1000", "001, Table 2, l. 235"),
         volume: default("5.88", "001, Table 2, l. 235"),
         houses: ONE_HOUSE,
@@ -118,8 +123,8 @@ pub const CITY_ROWS: [CityRow; 7] = [
     CityRow {
         row: 3,
         name: "facade paint",
-        life: default("1825", "001, Table 1, l. 162–164"),
-        area: default("125", "001, Table 1, l. 162–164"),
+        life: default("1825", "001, Table 1, l. 162–164, and Table 2, l. 238–239"),
+        area: default("125", "001, Table 1, l. 162–164, and Table 2, l. 238–239"),
         density: default("1400", "001, Table 2, l. 238–239"),
         volume: default("0.25", "001, Table 2, l. 238–239"),
         houses: THREE_HOUSES,
@@ -127,8 +132,8 @@ pub const CITY_ROWS: [CityRow; 7] = [
     CityRow {
         row: 4,
         name: "window and door paint",
-        life: default("1825", "001, Table 1, l. 166–168"),
-        area: default("5.57", "001, defaults, l. 112"),
+        life: default("1825", "001, Table 1, l. 166–168, and Table 2, l. 240–243"),
+        area: default("5.57", "001, normal case, list of advised defaults, l. 112, and Table 2, l. 240–243"),
         density: default("1400", "001, Table 2, l. 240–243"),
         volume: default("0.25", "001, Table 2, l. 240–243"),
         houses: THREE_HOUSES,
@@ -136,8 +141,8 @@ pub const CITY_ROWS: [CityRow; 7] = [
     CityRow {
         row: 5,
         name: "facade plaster",
-        life: default("9125", "001, Table 1, l. 170–172"),
-        area: default("125", "001, Table 1, l. 170–172"),
+        life: default("9125", "001, Table 1, l. 170–172, and Table 2, l. 245–247"),
+        area: default("125", "001, Table 1, l. 170–172, and Table 2, l. 245–247"),
         density: default("1000", "001, Table 2, l. 245–247"),
         volume: default("4.0", "001, Table 2, l. 245–247"),
         houses: ONE_HOUSE,
@@ -145,8 +150,8 @@ pub const CITY_ROWS: [CityRow; 7] = [
     CityRow {
         row: 6,
         name: "outdoor joint sealant",
-        life: default("1825", "001, Table 1, l. 173–175"),
-        area: default("0.31", "001, Table 1, l. 173–175"),
+        life: default("1825", "001, Table 1, l. 173–175, and Table 2, l. 249–250"),
+        area: default("0.31", "001, Table 1, l. 173–175, and Table 2, l. 249–250"),
         density: default("1000", "001, Table 2, l. 249–250"),
         volume: default("5.88", "001, Table 2, l. 249–250"),
         houses: THREE_HOUSES,
@@ -154,8 +159,8 @@ pub const CITY_ROWS: [CityRow; 7] = [
     CityRow {
         row: 7,
         name: "outdoor joint filler",
-        life: default("9125", "001, Table 1, l. 176–178"),
-        area: default("35", "001, Table 1, l. 176–178"),
+        life: default("9125", "001, Table 1, l. 176–178, and Table 2, l. 252–255"),
+        area: default("35", "001, Table 1, l. 176–178, and Table 2, l. 252–255"),
         density: default("1900", "001, Table 2, l. 252–255"),
         volume: default("2.8", "001, Table 2, l. 252–255"),
         houses: ONE_HOUSE,
@@ -175,21 +180,31 @@ pub struct HygieneRow {
     pub share: DefaultValue,
 }
 
-const fn hygiene(
-    row: u8,
-    name: &'static str,
-    [grams, uses, share]: [&'static str; 3],
-    source: &'static str,
-) -> HygieneRow {
-    HygieneRow { row, name, grams: default(grams, source), uses: default(uses, source), share: default(share, source) }
+macro_rules! pick_list {
+    ($line:literal) => {
+        concat!("000, appendix 3.1, pick-list (ESD PT1 (2004), Table 3.5, l. 2017), l. ", $line)
+    };
+}
+
+/// A row of the pick-list: one line has all three numbers, but not the unit of the first.
+macro_rules! hygiene {
+    ($row:literal, $name:literal, $grams:literal, $uses:literal, $share:literal, $line:literal) => {
+        HygieneRow {
+            row: $row,
+            name: $name,
+            grams: default($grams, concat!(pick_list!($line), "; grams by Table 8, l. 753")),
+            uses: default($uses, pick_list!($line)),
+            share: default($share, pick_list!($line)),
+        }
+    };
 }
 
 pub const HYGIENE_ROWS: [HygieneRow; 5] = [
-    hygiene(1, "shampoo", ["12", "0.71", "0.1"], "000, appendix 3.1, pick-list, l. 2020"),
-    hygiene(2, "aerosol", ["3", "2", "0.2"], "000, appendix 3.1, pick-list, l. 2022"),
-    hygiene(3, "stick", ["0.5", "1", "0.8"], "000, appendix 3.1, pick-list, l. 2023"),
-    hygiene(4, "cream", ["0.8", "2", "0.1"], "000, appendix 3.1, pick-list, l. 2024"),
-    hygiene(5, "mouth wash", ["10", "3", "0.05"], "000, appendix 3.1, pick-list, l. 2025"),
+    hygiene!(1, "shampoo", "12", "0.71", "0.1", 2020),
+    hygiene!(2, "aerosol", "3", "2", "0.2", 2022),
+    hygiene!(3, "stick", "0.5", "1", "0.8", 2023),
+    hygiene!(4, "cream", "0.8", "2", "0.1", 2024),
+    hygiene!(5, "mouth wash", "10", "3", "0.05", 2025),
 ];
 
 pub fn city_row(row: u8) -> Option<&'static CityRow> {
@@ -200,10 +215,18 @@ pub fn hygiene_row(row: u8) -> Option<&'static HygieneRow> {
     HYGIENE_ROWS.iter().find(|hygiene| hygiene.row == row)
 }
 
+/// What must be known of a row in kinds 2 and 3, which multiply A by V.
+pub fn volume_note(row: u8) -> Option<&'static str> {
+    (row == 7).then_some(
+        "001's appendix (l. 320–324) derives V = 2.8 L for 1 m2 of wall; Table 2 (l. 254) pairs it with A = 35 m2 of \
+         joints, as is done here. With the wall's 125 m2 the figures of kinds 2 and 3 would be 25/7 times as high.",
+    )
+}
+
 /// What the documents suggest for quantities that a case gives itself: kind, quantity, meaning, suggestion.
 pub const SUGGESTIONS: [(u8, char, &str, DefaultValue); 8] = [
-    (1, 'c', "market share", default("1.0", "001, symbols, l. 127–128")),
-    (2, 'c', "market share", default("1.0", "001, symbols, l. 127–128")),
+    (1, 'c', "market share", default("1.0", "001, normal case, list under the missing equations, l. 127–128")),
+    (2, 'c', "market share", default("1.0", "001, worst case, list under the missing equation, l. 199–200")),
     (4, 'b', "fraction disintegrated", default("0", "002, Table 3, l. 307")),
     (4, 'c', "fraction to water", default("1", "002, Table 3, l. 308")),
     (6, 'b', "penetration", default("0.5", "000, Table 8, l. 756")),

@@ -1,11 +1,12 @@
 //! The commands on an archive file: new, file, show, list, worst.
 
 use super::cases::worked_out;
-use super::{archive_of, line, record_number, record_of, Answer};
+use super::{archive_of, line, opened, record_number, record_of, Answer};
 use crate::arguments::{Arguments, Part};
 use crate::failure::Failure;
 use crate::json::Json;
-use crate::refusals::{filing_refused, not_an_archive, refused};
+use crate::output::Output;
+use crate::refusals::{filing_refused, refused};
 use crate::{describe, numbers, store};
 use csorvelin_binding::{Archive, Case, Record, Refusal};
 use csorvelin_model::ranges::Violation;
@@ -16,20 +17,24 @@ const LISTED_BYTES: usize = 65_536;
 pub fn new(arguments: &Arguments) -> Answer {
     arguments.takes(&[])?;
     let [path] = arguments.places("ARCHIVE")?;
+    arguments.written(path)?;
     let archive = Archive::new();
     store::create(path, archive.bytes())?;
     let length = archive.bytes().len() as u32;
-    Ok(if arguments.json {
+    let text = if arguments.json {
         line(Json::object([("created", Json::from(path)), ("bytes", Json::from(length))]))
     } else {
         format!("created {path}, {length} bytes\n")
-    })
+    };
+    Ok(text.into())
 }
 
 pub fn file(arguments: &Arguments) -> Answer {
     arguments.takes(&[Part::Case])?;
     let [path] = arguments.places("ARCHIVE CASE")?;
+    arguments.written(path)?;
     let given = arguments.case(store::read)?;
+    let typed = given.typed.as_ref();
     // A refusal from the input comes before anything of the archive is looked at.
     let (case, _) = worked_out(&given)?;
     let (number, figures) = store::change(path, |old| {
@@ -38,16 +43,17 @@ pub fn file(arguments: &Arguments) -> Answer {
         let figures = record_of(&archive, number)?.figures();
         Ok((archive.bytes().to_vec(), (number, figures)))
     })?;
-    Ok(if arguments.json {
+    let text = if arguments.json {
         line(Json::object([
             ("filed", Json::from(number)),
-            ("case", describe::case_json(&case)),
+            ("case", describe::case_json(&case, typed)),
             ("figures", describe::figures_json(figures)),
         ]))
     } else {
-        let case = describe::case_text(&case, &given.typed);
+        let case = describe::case_text(&case, typed);
         format!("filed in {path} as record {number}\n{case}\n{}", describe::figures_text(figures))
-    })
+    };
+    Ok(Output::from(text).noting(describe::missing(&case, typed)))
 }
 
 pub fn show(arguments: &Arguments) -> Answer {
@@ -59,7 +65,7 @@ pub fn show(arguments: &Arguments) -> Answer {
     if let Some(out) = &arguments.out {
         store::create(out, record.case_bytes())?;
     }
-    Ok(record_text(number, &record, arguments.json))
+    Ok(record_text(number, &record, arguments.json).into())
 }
 
 fn record_text(number: u64, record: &Record, json: bool) -> String {
@@ -67,34 +73,38 @@ fn record_text(number: u64, record: &Record, json: bool) -> String {
     if json {
         return line(Json::object([
             ("record", Json::from(number)),
-            ("case", describe::case_json(&case)),
+            ("case", describe::case_json(&case, None)),
             ("figures", describe::figures_json(figures)),
         ]));
     }
-    let case = describe::case_text(&case, &Default::default());
+    let case = describe::case_text(&case, None);
     format!("record   {number}\n{case}\n{}", describe::figures_text(figures))
 }
 
 pub fn list(arguments: &Arguments) -> Answer {
     arguments.takes(&[Part::All])?;
     let [path] = arguments.places("ARCHIVE")?;
-    let bytes = store::read(path)?;
-    let length = bytes.len();
-    let archive = Archive::from_bytes(bytes).map_err(|_| Failure::ListRefused(not_an_archive(path, length)))?;
-    if arguments.json {
-        let records = archive.records().map(|record| {
-            let figures = describe::figures_json(record.figures());
-            Json::object([("case", describe::case_json(&record.case())), ("figures", figures)])
-        });
-        return Ok(line(Json::object([("records", Json::list(records))])));
-    }
+    let archive = opened(path, store::read(path)?).map_err(Failure::ListRefused)?;
+    let length = archive.bytes().len();
     if length > LISTED_BYTES && !arguments.all {
-        let found = format!("{length} bytes");
-        let allowed = format!("at most {LISTED_BYTES} bytes; csorvelin list --all prints longer archives too");
-        let field = format!("archive {path}");
-        return Err(Failure::ListRefused(Violation { number: 21, field, found, allowed }));
+        return Err(too_long(path, length));
     }
-    Ok(listing(&archive))
+    let text = if arguments.json { line(listing_json(&archive)) } else { listing(&archive) };
+    Ok(text.into())
+}
+
+fn too_long(path: &str, length: usize) -> Failure {
+    let allowed = format!("at most {LISTED_BYTES} bytes; csorvelin list --all prints longer archives too");
+    let (field, found) = (format!("archive {path}"), format!("{length} bytes"));
+    Failure::ListTooLong(Violation { number: Refusal::NotAnArchive.number(), field, found, allowed })
+}
+
+fn listing_json(archive: &Archive) -> Json {
+    let records = archive.records().map(|record| {
+        let figures = describe::figures_json(record.figures());
+        Json::object([("case", describe::case_json(&record.case(), None)), ("figures", figures)])
+    });
+    Json::object([("records", Json::list(records))])
 }
 
 /// The printed archive: figures in milligrams, each rounded up.
@@ -126,5 +136,5 @@ pub fn worst(arguments: &Arguments) -> Answer {
         refused(refusal, "archive", "no record".to_string(), "an archive with at least one record".to_string())
     })?;
     let record = record_of(&archive, number)?;
-    Ok(record_text(number, &record, arguments.json))
+    Ok(record_text(number, &record, arguments.json).into())
 }

@@ -2,8 +2,9 @@
 
 use super::{archive_of, line, record_number, record_of, Answer};
 use crate::arguments::{Arguments, Given, Part};
-use crate::failure::Failure;
+use crate::failure::{Failure, WRONG_RECORD};
 use crate::json::Json;
+use crate::output::Output;
 use crate::refusals::case_refused;
 use crate::{describe, explain, store};
 use csorvelin_binding::{work_out, Case, Figures, Refusal, CASE_BYTES};
@@ -26,58 +27,87 @@ pub fn work_out_case(arguments: &Arguments) -> Answer {
     arguments.takes(&[Part::Case])?;
     let [] = arguments.places("CASE")?;
     let given = arguments.case(store::read)?;
+    let typed = given.typed.as_ref();
     let (case, figures) = worked_out(&given)?;
-    Ok(if arguments.json {
-        line(Json::object([("case", describe::case_json(&case)), ("figures", describe::figures_json(figures))]))
+    let text = if arguments.json {
+        line(Json::object([("case", describe::case_json(&case, typed)), ("figures", describe::figures_json(figures))]))
     } else {
-        describe::case_text(&case, &given.typed) + "\n" + &describe::figures_text(figures)
-    })
+        describe::case_text(&case, typed) + "\n" + &describe::figures_text(figures)
+    };
+    Ok(Output::from(text).noting(describe::missing(&case, typed)))
+}
+
+/// What a record holds beside its case.
+struct Stored {
+    number: u64,
+    figures: Figures,
+}
+
+impl Stored {
+    /// How the record differs from the figures of its case.
+    fn fault(&self, figures: Figures) -> Option<String> {
+        let (record, case) = (in_words(self.figures), in_words(figures));
+        (self.figures != figures).then(|| format!("the record holds {record}, its case gives {case}"))
+    }
 }
 
 pub fn explain_case(arguments: &Arguments) -> Answer {
     arguments.takes(&[Part::Case])?;
-    let (given, stored) = if arguments.places.is_empty() {
-        (arguments.case(store::read)?, None)
-    } else {
-        arguments.takes(&[])?;
-        let [path, number] = arguments.places("CASE, or ARCHIVE NUMBER")?;
-        let archive = archive_of(path, store::read(path)?)?;
-        let record = record_of(&archive, record_number(number)?)?;
-        let given = Given { bytes: record.case_bytes().to_vec(), typed: Default::default() };
-        (given, Some(record.figures()))
-    };
-    let (case, figures) = worked_out(&given)?;
-    let sheet = Sheet::of(&given.bytes).map_err(|violation| {
-        Failure::Disagreement(format!("the model refuses this case with {}, the library does not", violation.number))
+    let (given, stored) = explained(arguments)?;
+    let (stored, typed) = (stored.as_ref(), given.typed.as_ref());
+    let (case, figures) = worked_out(&given).map_err(|failure| match stored {
+        Some(stored) => failure.in_record(stored.number),
+        None => failure,
     })?;
-    agreement(&sheet, figures, stored)?;
-    let figures: [u64; 4] = figures.into();
-    Ok(if arguments.json {
-        let sheet = explain::json(&sheet, figures);
-        let agree = Json::from("the library and the model give the same four figures");
-        line(Json::object([("case", describe::case_json(&case)), ("sheet", sheet), ("check", agree)]))
+    let sheet = agreed_sheet(&given.bytes, figures)?;
+    let fault = stored.and_then(|stored| stored.fault(figures));
+    let check = match (&fault, stored) {
+        (Some(fault), _) => fault,
+        (None, Some(_)) => "the library and the model give the same four figures, and the record holds them",
+        (None, None) => "the library and the model give the same four figures",
+    };
+    let out = if arguments.json {
+        let sheet = Json::object([("case", describe::case_json(&case, typed)), ("sheet", explain::json(&sheet))]);
+        line(with_record(sheet, stored).and("check", Some(Json::from(check))))
     } else {
-        let stored = if stored.is_some() { ", and the record holds them" } else { "" };
-        describe::case_text(&case, &given.typed)
-            + &explain::text(&sheet, figures)
-            + &format!("\nChecked: the library and the model give the same four figures{stored}.\n")
+        format!("{}{}\nChecked: {check}.\n", describe::case_text(&case, typed), explain::text(&sheet))
+    };
+    Ok(match fault {
+        Some(fault) => Output { out, err: format!("csorvelin: {fault}\n"), status: WRONG_RECORD },
+        None => out.into(),
     })
 }
 
-/// The library's figures, and those a record holds, must be the sheet's.
-fn agreement(sheet: &Sheet, figures: Figures, stored: Option<Figures>) -> Result<(), Failure> {
+fn with_record(sheet: Json, stored: Option<&Stored>) -> Json {
+    let number = stored.map(|stored| Json::from(stored.number));
+    sheet.and("record", number).and("stored", stored.map(|stored| describe::figures_json(stored.figures)))
+}
+
+/// The case to be explained, and what the record holds that it was taken from.
+fn explained(arguments: &Arguments) -> Result<(Given, Option<Stored>), Failure> {
+    if arguments.places.is_empty() {
+        return Ok((arguments.case(store::read)?, None));
+    }
+    arguments.takes(&[])?;
+    let [path, number] = arguments.places("CASE, or ARCHIVE NUMBER")?;
+    let archive = archive_of(path, store::read(path)?)?;
+    let number = record_number(number)?;
+    let record = record_of(&archive, number)?;
+    let given = Given { bytes: record.case_bytes().to_vec(), typed: None };
+    Ok((given, Some(Stored { number, figures: record.figures() })))
+}
+
+/// The model's sheet of a case, which must have the library's figures.
+fn agreed_sheet(case: &[u8], figures: Figures) -> Result<Sheet, Failure> {
+    let sheet = Sheet::of(case).map_err(|violation| {
+        Failure::Disagreement(format!("the model refuses this case with {}, the library does not", violation.number))
+    })?;
     let own = Figures::from(sheet.figures());
     if figures != own {
         let (library, model) = (in_words(figures), in_words(own));
         return Err(Failure::Disagreement(format!("the library gives {library}, the model {model}")));
     }
-    match stored {
-        Some(stored) if stored != own => {
-            let (record, case) = (in_words(stored), in_words(own));
-            Err(Failure::Disagreement(format!("the record holds {record}, its case gives {case}")))
-        }
-        _ => Ok(()),
-    }
+    Ok(sheet)
 }
 
 fn in_words(figures: Figures) -> String {
@@ -88,13 +118,15 @@ pub fn describe_case(arguments: &Arguments) -> Answer {
     arguments.takes(&[Part::Case, Part::Out])?;
     let [] = arguments.places("CASE")?;
     let given = arguments.case(store::read)?;
+    let typed = given.typed.as_ref();
     let (case, _) = worked_out(&given)?;
     if let Some(path) = &arguments.out {
         store::create(path, &given.bytes)?;
     }
-    Ok(if arguments.json {
-        line(describe::case_json(&case))
+    let text = if arguments.json {
+        line(describe::case_json(&case, typed))
     } else {
-        format!("{}bytes    {}\n", describe::case_text(&case, &given.typed), describe::hex(&given.bytes))
-    })
+        format!("{}bytes    {}\n", describe::case_text(&case, typed), describe::hex(&given.bytes))
+    };
+    Ok(Output::from(text).noting(describe::missing(&case, typed)))
 }
