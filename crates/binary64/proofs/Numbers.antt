@@ -1,17 +1,17 @@
 -- Laws of numbers in bytes, each over the width.
 -- Bytes to a number: `numberOf-halves`, `numberAt-halves`, `numberAt-one`, `numberOf-small`, `numberAt-small`.
 -- A number to bytes: `length-bytesOf`, `bytesOf-low`, `bytesOf-halves`.
--- There and back: `numberOf-bytesOf`, `bytesOf-numberOf`, `bytesOf-numberAt`.
+-- There and back: `numberOf-bytesOf`, `bytesOf-numberAt`.
 -- Writes in a list of bytes are in `Splice`.
 use mathlib.Core.Path.{_≡_, refl, sym, ap, _∙_}
 use mathlib.Core.List.{List, [], _∷_, _++_}
 use Prim.Native.Nat.{ℕ, zero, suc, _+_, _*_, _/_, _%_, _^_, _≤_, _<_}
-use native.Mathlib.Nat.{le-refl, zero-add, suc-add, one-mul, pow-zero, pow-suc, pow-succ', one-le-pow, mod-one, div-one, mod-lt, mod-eq-of-lt, div-eq-of-lt, div-div-eq-div-mul}
+use native.Mathlib.Nat.{zero-add, suc-add, one-mul, pow-zero, pow-suc, pow-succ', one-le-pow, mod-one, div-one, mod-lt, mod-eq-of-lt, div-eq-of-lt, div-div-eq-div-mul}
 use native.Mathlib.Omega.{arith}
 use lib.Arith.{digits-div, digits-mod, mod-mul}
 use lib.Dec.{lit≤, lit<}
 use lib.ListN.{length, take, drop, getD, length-drop}
-use lib.Seq.{getD-drop, drop-drop, take-nil, drop-nil, take-length}
+use lib.Seq.{getD-drop, drop-drop, take-nil, drop-nil}
 use Rattle.binary64.specs.Bytes.{bytesOf, numberOf, numberAt}
 
 power-pos : (w : ℕ) → 0 < 256 ^ w
@@ -100,9 +100,6 @@ first-bytes (b ∷ l) (suc w) h k =
     let r : (b + 256 * numberOf (take w l)) % 256 ≡ b = omega arith in
     let q : (b + 256 * numberOf (take w l)) / 256 ≡ numberOf (take w l) = omega arith in
     rw (r, q) (ap (λ (m : List ℕ). b ∷ m) (first-bytes l w (λ i. h (suc i)) (omega arith)))
-
-pub bytesOf-numberOf : (l : List ℕ) → ((i : ℕ) → getD l i 0 < 256) → bytesOf (length l) (numberOf l) ≡ l
-bytesOf-numberOf l h = rw (take-length l) at (first-bytes l (length l) h (le-refl (length l)))
 
 pub bytesOf-numberAt : (l : List ℕ) (at w : ℕ) → ((i : ℕ) → getD l i 0 < 256) → at + w ≤ length l → bytesOf w (numberAt l at w) ≡ take w (drop at l)
 unfolding numberAt

@@ -1,16 +1,20 @@
 -- Laws on products.
---   grow-none, grow-one, grow-two `grow`: the carry takes no limb, one or two
---   product-take, product-again   one more factor
+--   grow-none, grow-one, grow-two   `grow`: the carry takes no limb, or one or two, the top one not 0
+--   product-take, product-again     one more factor
 use mathlib.Core.Path.{_≡_, sym, ap, _∙_}
 use mathlib.Core.List.{List, [], _∷_, _++_}
-use Prim.Native.Nat.{ℕ, zero, suc, _+_, _*_, _/_, _%_, _^_, _≤_, _<_}
+use Prim.Native.Nat.{ℕ, zero, suc, _+_, _-_, _*_, _/_, _%_, _^_, _≤_, _<_}
 use native.Mathlib.Nat.{mul-assoc, le-of-suc-le-suc}
 use native.Mathlib.Omega.{arith}
 use native.Mathlib.Numerals.{add-one}
-use lib.ListN.{length, take, drop, getD, set}
-use lib.Seq.{length-take-le, length-front}
+use lib.ListN.{length, take, drop, getD, set, length-set}
+use lib.Seq.{length-take-le, length-front, getD-set-same}
 use Rattle.natural.specs.Value.{value, productOf}
 use Rattle.natural.proofs.Value.{value-front, value-store, store-two}
+
+-- a limb that is not 0 is stored as the top one of r
+top-stored : (l : List ℕ) (m r x : ℕ) → m < length l → r - 1 ≡ m → 0 < x → 0 < getD (set l m x) (r - 1) 0
+top-stored l m r x h e p = rw (e, getD-set-same l m x 0 h) p
 
 -- the first n limbs of l became e, and k is carried out of them
 module _ (l e : List ℕ) (n T k : ℕ) (len : length e ≡ length (take n l)) (inv : value e + k * 2 ^ (32 * length (take n l)) ≡ T) where
@@ -25,14 +29,18 @@ module _ (l e : List ℕ) (n T k : ℕ) (len : length e ≡ length (take n l)) (
       let w : k * 2 ^ (32 * n) ≡ 0 * 2 ^ (32 * n) = ap (λ (x : ℕ). x * 2 ^ (32 * n)) z in
       omega (arith, front h)
 
-  pub grow-one : (lo : ℕ) → n < length l → lo ≡ k % 4294967296 → k < 4294967296 → value (take (n + 1) (set (e ++ drop n l) n lo)) ≡ T
-  grow-one lo h el hk =
-      let a : value (take (n + 1) (set (e ++ drop n l) n lo)) ≡ value (take n (e ++ drop n l)) + lo * 2 ^ (32 * n) = value-store (e ++ drop n l) n lo (omega (arith, length-front l e n len)) in
+  pub grow-one : (lo : ℕ) → n < length l → lo ≡ k % 4294967296 → (k ≡ 0 → ⊥) → k < 4294967296 → (value (take (n + 1) (set (e ++ drop n l) n lo)) ≡ T) × (0 < getD (set (e ++ drop n l) n lo) (n + 1 - 1) 0)
+  grow-one lo h el z hk =
+      let long : n < length (e ++ drop n l) = omega (arith, length-front l e n len) in
+      let a : value (take (n + 1) (set (e ++ drop n l) n lo)) ≡ value (take n (e ++ drop n l)) + lo * 2 ^ (32 * n) = value-store (e ++ drop n l) n lo long in
       let w : lo * 2 ^ (32 * n) ≡ k * 2 ^ (32 * n) = ap (λ (x : ℕ). x * 2 ^ (32 * n)) (omega arith) in
-      omega (arith, front (omega arith))
+      (omega (arith, front (omega arith)), top-stored (e ++ drop n l) n (n + 1) lo long (omega arith) (omega arith))
 
-  pub grow-two : (lo hi : ℕ) → n + 2 ≤ length l → lo ≡ k % 4294967296 → hi ≡ k / 4294967296 → value (take (n + 2) (set (set (e ++ drop n l) n lo) (n + 1) hi)) ≡ T
-  grow-two lo hi h el eh = store-two (e ++ drop n l) n k lo hi (omega (arith, length-front l e n len)) el eh ∙ front (omega arith)
+  pub grow-two : (lo hi : ℕ) → n + 2 ≤ length l → lo ≡ k % 4294967296 → hi ≡ k / 4294967296 → 4294967296 ≤ k
+      → (value (take (n + 2) (set (set (e ++ drop n l) n lo) (n + 1) hi)) ≡ T) × (0 < getD (set (set (e ++ drop n l) n lo) (n + 1) hi) (n + 2 - 1) 0)
+  grow-two lo hi h el eh hk =
+      let long : n + 2 ≤ length (e ++ drop n l) = omega (arith, length-front l e n len) in
+      (store-two (e ++ drop n l) n k lo hi long el eh ∙ front (omega arith), top-stored (set (e ++ drop n l) n lo) (n + 1) (n + 2) hi (omega (arith, length-set (e ++ drop n l) n lo)) (omega arith) (omega arith))
 
 pub product-take : (l : List ℕ) (i : ℕ) → i < length l → productOf (take (suc i) l) ≡ productOf (take i l) * getD l i 0
 unfolding productOf

@@ -1,16 +1,17 @@
 // Products: the number in the first limbs times a factor, or times all of them.
 ghost use mathlib.Core.Path.{_≡_};
-ghost use Prim.Native.Nat.{_+_, _*_, _≤_};
-ghost use lib.ListN.{length, take};
+ghost use Prim.Native.Nat.{_+_, _-_, _*_, _≤_, _<_};
+ghost use lib.ListN.{length, take, getD};
 ghost use Rattle.natural.specs.Value.{value, productOf};
 use natural::arithmetic::times_add;
 use natural::limb::high;
 use natural::limb::low;
 
-// Multiplies the number in the first n limbs by f and adds `more`; returns how many limbs the result takes, n or up to two more.
+// Multiplies the number in the first n limbs by f and adds `more`; returns how many limbs the result takes: n, or one or two
+// more, of which the top one is not 0.
 pub fn grow(limbs: &mut [u32], n: usize, f: u64, more: u64) -> usize
     requires { ⌜ n + 2 ≤ length (now limbs) ⌝ }
-    ensures { λ r. ⌜ (value (take r (now (limbs .exit))) ≡ value (take n (now (limbs .entry))) * f + more) × (n ≤ r) × (r ≤ n + 2) ⌝ }
+    ensures { λ r. ⌜ (value (take r (now (limbs .exit))) ≡ value (take n (now (limbs .entry))) * f + more) × (n ≤ r) × (r ≤ n + 2) × (n < r → 0 < getD (now (limbs .exit)) (r - 1) 0) ⌝ }
 {
     let carry = times_add(&mut limbs[..n], f, more);
     if carry == 0 {

@@ -1,4 +1,4 @@
--- The carry out of the first n limbs takes no limb, one or two.
+-- The carry out of the first n limbs takes no limb, one or two, the top one not 0.
 use mathlib.Core.Path.{sym}
 use borrow.Author.Needs.{needs}
 use native.Mathlib.Omega.{arith}
@@ -12,13 +12,14 @@ returns : tie.Need-returns
 returns c =
     let t = c .before .before .before in
     let s = t .before .before .before in
-    (grow-none (s .args .limbs .now) (t .times-add .last .0) (s .args .n) _ (t .times-add .result) (t .times-add .kept .0) (t .times-add .ensures) (omega arith) (c .if1 .taken), omega arith, omega arith)
+    (grow-none (s .args .limbs .now) (t .times-add .last .0) (s .args .n) _ (t .times-add .result) (t .times-add .kept .0) (t .times-add .ensures) (omega arith) (c .if1 .taken), omega arith, omega arith, λ h. absurd (omega arith))
 
 returns-2 : tie.Need-returns-2
 returns-2 c =
     let t = c .before .before .before .before .before in
     let s = t .before .before .before in
-    (grow-one (s .args .limbs .now) (t .times-add .last .0) (s .args .n) _ (t .times-add .result) (t .times-add .kept .0) (t .times-add .ensures) _ (omega arith) (c .before .low .ensures) (c .if2 .taken), omega arith, omega arith)
+    let g = grow-one (s .args .limbs .now) (t .times-add .last .0) (s .args .n) _ (t .times-add .result) (t .times-add .kept .0) (t .times-add .ensures) _ (omega arith) (c .before .low .ensures) (c .before .before .if1 .left) (c .if2 .taken) in
+    (g .0, omega arith, omega arith, λ h. g .1)
 
 slice-write-limbs-2 : tie.Need-slice-write-limbs-2
 slice-write-limbs-2 c =
@@ -30,7 +31,8 @@ returns-3 : tie.Need-returns-3
 returns-3 c =
     let t = c .before .before .before .before .before .before in
     let s = t .before .before .before in
-    (grow-two (s .args .limbs .now) (t .times-add .last .0) (s .args .n) _ (t .times-add .result) (t .times-add .kept .0) (t .times-add .ensures) _ _ (s .pre) (c .before .before .low .ensures) (c .high .ensures), omega arith, omega arith)
+    let g = grow-two (s .args .limbs .now) (t .times-add .last .0) (s .args .n) _ (t .times-add .result) (t .times-add .kept .0) (t .times-add .ensures) _ _ (s .pre) (c .before .before .low .ensures) (c .high .ensures) (omega arith) in
+    (g .0, omega arith, omega arith, λ h. g .1)
 
 pub grow-spec : {M : Type 1} → statement M
 grow-spec =
