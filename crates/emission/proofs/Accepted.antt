@@ -1,14 +1,14 @@
 -- What is known of a case that `decode` accepts or refuses.
 --   accepted-is, refused-is               what the answer of `decode` says of the case
 --   in-range                              a case without refusal has what its equation asks
---   figures-refused, figures-exact, figures-accepted   its four figures
-use mathlib.Core.Path.{_≡_, refl, sym, _∙_}
+--   figures-refused, figures-exact, figure-rounded, figures-accepted   its four figures, and each of them
+use mathlib.Core.Path.{_≡_, refl, sym, ap, _∙_}
 use mathlib.Core.Bool.{Bool, true, false, cond}
 use mathlib.Core.List.{List, [], _∷_, map}
 use Prim.Native.Nat.{ℕ, zero, suc, _*_, _^_, _≤_, _<_}
 use native.Mathlib.Omega.{arith}
 use lib.Dec.{eqb}
-use lib.ListN.{getD}
+use lib.ListN.{getD, List·getD-map}
 use lib.Ieee.{binary64, ofBits}
 use borrow.Author.Tests.{eqb-true, eqb-false, eq-eqb, ne-eqb}
 use Rattle.natural.specs.Ceiling.{ceiling}
@@ -130,6 +130,11 @@ figures-refused b h = rw (ne-eqb (refusalOf b) 0 h)
 pub figures-exact : (b : List ℕ) → refusalOf b ≡ 0 → figuresOf b ≡ map roundedUp (exactValues b)
 unfolding figuresOf
 figures-exact b h = rw (eq-eqb (refusalOf b) 0 h)
+
+-- each of them
+pub figure-rounded : (b : List ℕ) → refusalOf b ≡ 0 → (i : ℕ) → getD (figuresOf b) i 0 ≡ roundedUp (getD (exactValues b) i (0 over 1))
+unfolding ceiling
+figure-rounded b e i = ap (λ (l : List ℕ). getD l i 0) (figures-exact b e) ∙ List·getD-map roundedUp (exactValues b) i (0 over 1)
 
 -- rounded up, then put in their places
 placed : (b : List ℕ)

@@ -1,30 +1,29 @@
 -- Demand 2, of the result of a call of `work_out`: what its own contract, as the toolchain reads it (`Reads.Learnt`), says.
 --   bounds-of-ceiling   an exact value rounded up is within the bounds, at any margin
+--   figures-within      the bounds of an accepted case's figures, wherever they are worked out or filed
 --   Call, met           a call of `work_out`; that the function meets the contract which a call goes by
 --   figure-exact        an accepted result's figures are the exact values rounded up
 --   figure-bounds       each is within the bounds: never below, hardly above, zero exactly when the value is zero
 --   zero-iff            the last part by itself
 --   refusal-first, refused-no-figure   demand 1: the refusal is the first condition that holds, and beside one stand zeros
---   figures-within      the bounds of an accepted case's figures, wherever they are worked out or filed
 -- That no lower number is 0 is in Positive.
-use mathlib.Core.Path.{_≡_, sym, ap, _∙_}
+use mathlib.Core.Path.{_≡_, sym, _∙_}
 use mathlib.Core.List.{List, [], _∷_, map}
 use Prim.Native.Nat.{ℕ, _+_, _*_, _^_, _≤_, _<_}
 use native.Mathlib.Nat.{mul-le-mul-right}
 use native.Mathlib.Omega.{arith}
-use lib.ListN.{getD, List·getD-map}
+use lib.ListN.{getD}
 use denote.Ref.{now}
 use denote.Triple.Clauses.{AtExit}
 use contract.Lifetimes.{Lfts}
 use borrow.Fn.Kinds as kinds
-use Rattle.natural.specs.Ceiling.{ceiling}
 use Rattle.natural.proofs.Ceiling.{ceiling-not-below, ceiling-less-than-one-above, ceiling-zero}
 use Rattle.product.specs.Ratio.{Ratio, _over_, roundedUp}
 use Rattle.scenario.specs.Refusal.{IsFirst}
 use Rattle.scenario.specs.Case.{refusals, refusalOf}
 use Rattle.scenario.proofs.Refusals.{refusal-order}
 use Rattle.emission.specs.Figures.{exactValues, figuresOf, WithinBounds, margin}
-use Rattle.emission.proofs.Accepted.{figures-exact, figures-refused}
+use Rattle.emission.proofs.Accepted.{figures-exact, figure-rounded, figures-refused}
 use Rattle.emission.proofs.Positive.{lower-not-zero}
 use Rattle.emission.proofs.work_out.Kinds as work-out-kinds
 use Rattle.emission.proofs.work_out.Reads as work-out-reads
@@ -49,6 +48,15 @@ bounds-of-ceiling m p h =
       zero-then = z .1;
     }
 
+-- ── of figures by their definition, as filing stores them
+
+-- at any margin
+figures-within-at : (m : ℕ) (b : List ℕ) → refusalOf b ≡ 0 → (i : ℕ) → i < 4 → WithinBounds m (getD (exactValues b) i (0 over 1)) (getD (figuresOf b) i 0)
+figures-within-at m b e i h = rw (figure-rounded b e i) (bounds-of-ceiling m (getD (exactValues b) i (0 over 1)) (lower-not-zero b e i h))
+
+pub figures-within : (b : List ℕ) → refusalOf b ≡ 0 → (i : ℕ) → i < 4 → WithinBounds margin (getD (exactValues b) i (0 over 1)) (getD (figuresOf b) i 0)
+figures-within = figures-within-at margin
+
 -- ── a call of `work_out`
 
 -- any lifetimes, arguments, result and parameters at exit of which its contract's promise holds
@@ -69,14 +77,9 @@ bytes c = now (c .args .0)
 pub figure-exact : (c : Call) → c .result .refusal ≡ 0 → c .result .figures ≡ map roundedUp (exactValues (bytes c))
 figure-exact c e = c .kept .1 ∙ figures-exact (bytes c) (sym (c .kept .0) ∙ e)
 
-each : (c : Call) → c .result .refusal ≡ 0 → (i : ℕ) → getD (c .result .figures) i 0 ≡ roundedUp (getD (exactValues (bytes c)) i (0 over 1))
-unfolding ceiling
-each c e i = ap (λ (l : List ℕ). getD l i 0) (figure-exact c e) ∙ List·getD-map roundedUp (exactValues (bytes c)) i (0 over 1)
-
 -- at any margin
 pub figure-bounds-at : (m : ℕ) (c : Call) → c .result .refusal ≡ 0 → (i : ℕ) → i < 4 → WithinBounds m (getD (exactValues (bytes c)) i (0 over 1)) (getD (c .result .figures) i 0)
-figure-bounds-at m c e i h =
-    rw (each c e i) (bounds-of-ceiling m (getD (exactValues (bytes c)) i (0 over 1)) (lower-not-zero (bytes c) (sym (c .kept .0) ∙ e) i h))
+figure-bounds-at m c e i h = rw (c .kept .1) (figures-within-at m (bytes c) (sym (c .kept .0) ∙ e) i h)
 
 pub figure-bounds : (c : Call) → c .result .refusal ≡ 0 → (i : ℕ) → i < 4 → WithinBounds margin (getD (exactValues (bytes c)) i (0 over 1)) (getD (c .result .figures) i 0)
 figure-bounds = figure-bounds-at margin
@@ -92,12 +95,3 @@ refusal-first c = refusal-order (bytes c) (c .result .refusal) .0 (sym (c .kept 
 
 pub refused-no-figure : (c : Call) → (c .result .refusal ≡ 0 → ⊥) → c .result .figures ≡ 0 ∷ 0 ∷ 0 ∷ 0 ∷ []
 refused-no-figure c h = c .kept .1 ∙ sym (figures-refused (bytes c) (λ (z : refusalOf (bytes c) ≡ 0). h (c .kept .0 ∙ z)))
-
--- ── of figures by their definition, as filing stores them
-
-pub figures-within : (b : List ℕ) → refusalOf b ≡ 0 → (i : ℕ) → i < 4 → WithinBounds margin (getD (exactValues b) i (0 over 1)) (getD (figuresOf b) i 0)
-unfolding ceiling
-figures-within b e i h =
-    let f : getD (figuresOf b) i 0 ≡ roundedUp (getD (exactValues b) i (0 over 1)) =
-    ap (λ (l : List ℕ). getD l i 0) (figures-exact b e) ∙ List·getD-map roundedUp (exactValues b) i (0 over 1) in
-    rw f (bounds-of-ceiling margin (getD (exactValues b) i (0 over 1)) (lower-not-zero b e i h))

@@ -1,6 +1,6 @@
 -- A figure of a case within the ranges is a number of 64 bits: `figures-fit`.
 -- Each chain of an equation is at most `cap` micrograms, by the limits of its quantities (`cap-chain`), and an equation has two at the most.
-use mathlib.Core.Path.{_≡_, refl, ap, _∙_}
+use mathlib.Core.Path.{_≡_, refl}
 use mathlib.Core.Bool.{Bool, true, cond}
 use mathlib.Core.List.{List, [], _∷_}
 use Prim.Native.Nat.{ℕ, zero, suc, _+_, _-_, _*_, _^_, _≤_, _<_}
@@ -9,8 +9,7 @@ use native.Mathlib.Omega.{arith}
 use borrow.Author.Tests.{leb-true}
 use lib.Dec.{leb, eqb}
 use lib.Ieee.{Float}
-use lib.ListN.{getD, List·getD-map}
-use Rattle.natural.specs.Ceiling.{ceiling}
+use lib.ListN.{getD}
 use Rattle.natural.specs.Value.{productOf}
 use Rattle.natural.proofs.Ceiling.{ceiling-at-most}
 use Rattle.scenario.specs.Case.{refusalOf}
@@ -27,7 +26,7 @@ use Rattle.emission.specs.Ranges.{Within, InRange}
 use Rattle.emission.specs.Constants.{numbers}
 use Rattle.product.proofs.Ratios.{AtMost, at-most-times}
 use Rattle.emission.proofs.Chains.{others, gather, chain-at-most, remainder-at-most, term, next}
-use Rattle.emission.proofs.Accepted.{in-range, figures-exact}
+use Rattle.emission.proofs.Accepted.{in-range, figure-rounded}
 use Rattle.emission.proofs.Cases.{every, every-at, by-row, with-loss, of-air, of-soil, each-value}
 use Rattle.emission.proofs.Positive.{lower-not-zero}
 
@@ -171,9 +170,7 @@ value-most b none i l =
     (total-capped 2 (toSoil k h) (of-soil Capped h tt (by-formulation h) k r)) i l
 
 pub figures-fit : (b : List ℕ) → refusalOf b ≡ 0 → (i : ℕ) → i < 4 → getD (figuresOf b) i 0 < 2 ^ 64
-unfolding ceiling
 figures-fit b e i h =
     let p = getD (exactValues b) i (0 over 1) in
-    let f : getD (figuresOf b) i 0 ≡ roundedUp p = ap (λ (l : List ℕ). getD l i 0) (figures-exact b e) ∙ List·getD-map roundedUp (exactValues b) i (0 over 1) in
-    let m : ceiling (p .upper) (p .lower) ≤ 2 * cap = ceiling-at-most (p .upper) (p .lower) (2 * cap) (lower-not-zero b e i h) (value-most b e i h) in
-    rw f (omega arith)
+    let m : roundedUp p ≤ 2 * cap = ceiling-at-most (p .upper) (p .lower) (2 * cap) (lower-not-zero b e i h) (value-most b e i h) in
+    rw (figure-rounded b e i) (omega arith)
