@@ -40,7 +40,7 @@ line-figures r = simp (drop-drop, numberAt-drop)
 
 -- ── numbers
 
-pub number-back : (w x : ℕ) (r : List ℕ) → x < 256 ^ w → numberAt (bytesOf w x ++ r) 0 w ≡ x
+number-back : (w x : ℕ) (r : List ℕ) → x < 256 ^ w → numberAt (bytesOf w x ++ r) 0 w ≡ x
 unfolding numberAt
 number-back w x r h = rw (take-at (bytesOf w x) r w (length-bytesOf w x), numberOf-bytesOf) (mod-eq-of-lt h)
 
@@ -78,7 +78,7 @@ pub length-recordOf : (l : Line) → Sized l → length (recordOf l) ≡ recordS
 unfolding recordOf
 length-recordOf l g = omega (arith, length-append (l .case) (figureBytes (l .figures)), length-figureBytes (l .figures), g .case-size, g .four)
 
-pub line-record : (l : Line) → Storable l → lineOf (recordOf l) ≡ l
+line-record : (l : Line) → Storable l → lineOf (recordOf l) ≡ l
 unfolding recordOf lineOf
 line-record l g =
     let c = l .case in

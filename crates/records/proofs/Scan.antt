@@ -25,14 +25,14 @@ pub from-start : (b : List ℕ) (n : ℕ) → from b n 0 ≡ firstLines recordSi
 unfolding from
 from-start b n = rw sub-zero
 
-pub from-end : (b : List ℕ) (n k : ℕ) → n ≤ k → from b n k ≡ []
+from-end : (b : List ℕ) (n k : ℕ) → n ≤ k → from b n k ≡ []
 unfolding from firstLines
 from-end b n k h = let d : n - k ≡ 0 = omega arith in rw d
 
 pub lineAt : List ℕ → ℕ → Line
 lineAt b k = lineOf (take recordSize (drop (recordSize * k) b))
 
-pub from-cons : (b : List ℕ) (n k : ℕ) → k < n → from b n k ≡ lineAt b k ∷ from b n (k + 1)
+from-cons : (b : List ℕ) (n k : ℕ) → k < n → from b n k ≡ lineAt b k ∷ from b n (k + 1)
 unfolding from firstLines lineAt
 from-cons b n k h =
     let d : n - k ≡ suc (n - (k + 1)) = omega arith in
