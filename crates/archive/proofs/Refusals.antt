@@ -3,7 +3,7 @@
 -- A filing's list begins with the case's own: `behind-case`, `file-refusal-is`, with `fromState` for what follows; `both-zero`, `case-refused`.
 -- That a refusal is the first that holds is in `history`.
 use mathlib.Core.Path.{_≡_, refl}
-use mathlib.Core.Bool.{false, cond, _||_}
+use mathlib.Core.Bool.{false, cond}
 use mathlib.Core.List.{List, [], _∷_, _++_}
 use Prim.Native.Nat.{ℕ, zero, suc, _+_, _-_, _≤_}
 use native.Mathlib.Omega.{arith}
@@ -29,18 +29,19 @@ accepted-refused (suc r) a b h = refl
 
 -- ── free space in plain numbers
 
-pub full-exactly : (size used n : ℕ) → (full size used n ≡ false → (used + 96 ≤ size) × (n ≡ 1000000 → ⊥)) × (used + 96 ≤ size → (n ≡ 1000000 → ⊥) → full size used n ≡ false)
+free-then : (size used n : ℕ) → full size used n ≡ false → (used + 96 ≤ size) × (n ≡ 1000000 → ⊥)
 unfolding full
-full-exactly size used n = (free, not-full)
-  where
-    free : (ltb (size - used) recordSize || eqb n mostRecords) ≡ false → (used + 96 ≤ size) × (n ≡ 1000000 → ⊥)
-    free e =
-        let p = neither (ltb (size - used) recordSize) (eqb n mostRecords) e in
-        let r : recordSize ≤ size - used = ltb-false (size - used) recordSize (p .0) in
-        (omega arith, eqb-false n mostRecords (p .1))
+free-then size used n e =
+    let p = neither _ _ e in
+    let r : recordSize ≤ size - used = ltb-false _ _ (p .0) in
+    (omega arith, eqb-false _ _ (p .1))
 
-    not-full : used + 96 ≤ size → (n ≡ 1000000 → ⊥) → (ltb (size - used) recordSize || eqb n mostRecords) ≡ false
-    not-full h o = rw (le-ltb (size - used) recordSize (omega arith), ne-eqb n mostRecords o)
+then-free : (size used n : ℕ) → used + 96 ≤ size → (n ≡ 1000000 → ⊥) → full size used n ≡ false
+unfolding full
+then-free size used n h o = rw (le-ltb (size - used) recordSize (omega arith), ne-eqb n mostRecords o)
+
+pub full-exactly : (size used n : ℕ) → (full size used n ≡ false → (used + 96 ≤ size) × (n ≡ 1000000 → ⊥)) × (used + 96 ≤ size → (n ≡ 1000000 → ⊥) → full size used n ≡ false)
+full-exactly size used n = (free-then size used n, then-free size used n)
 
 -- ── file
 

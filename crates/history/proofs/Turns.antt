@@ -66,7 +66,7 @@ emptied-stands b h = record { holds = emptied-holds b h; size-is = length-emptie
 
 -- ── a filing's refusals, as the ledger judges them: the case's own, then these
 
-abbrev pub fromLines : ℕ → List Line → List ℕ → List Condition
+abbrev fromLines : ℕ → List Line → List ℕ → List Condition
 fromLines size ls c = (22 when held ls c) ∷ (23 when full size (usedLength recordSize (length ls)) (length ls)) ∷ []
 
 pub judged-file-is : (size : ℕ) (ls : List Line) (c : List ℕ) → firstOf (judgedFile size ls c) ≡ orElse (refusalOf c) (firstOf (fromLines size ls c))

@@ -28,7 +28,7 @@ copy-done b b₀ s at i h l e = (rw (drop-of-length-le s h) at e) ∙ sets-eq s 
 
 -- ── an array of four, by its elements
 
-pub four-of : (l : List ℕ) → length l ≡ 4 → l ≡ getD l 0 0 ∷ getD l 1 0 ∷ getD l 2 0 ∷ getD l 3 0 ∷ []
+four-of : (l : List ℕ) → length l ≡ 4 → l ≡ getD l 0 0 ∷ getD l 1 0 ∷ getD l 2 0 ∷ getD l 3 0 ∷ []
 four-of [] e = absurd (omega (arith, e))
 four-of (w ∷ []) e = absurd (omega (arith, e))
 four-of (w ∷ x ∷ []) e = absurd (omega (arith, e))
