@@ -16,10 +16,7 @@ use records::RECORD_SIZE;
 pub extern "C" fn csorvelin_work_out(case: &[u8], figures: &mut [u64; 4]) -> u32
     ensures { λ r. ⌜ (r ≡ refusalOf (now (case .entry))) × (now (figures .exit) ≡ figuresOf (now (case .entry))) ⌝ }
 {
-    let worked = emission::work_out(case);
-    let four = worked.figures;
-    *figures = four;
-    worked.refusal
+    emission::work_out_into(case, figures)
 }
 
 #[no_mangle]

@@ -1,18 +1,9 @@
 -- Each arm of the match says which answer empty gave; the bytes are empty's own.
-use mathlib.Core.Path.{sym, _∙_}
 use borrow.Author.Needs.{needs}
+use Rattle.archive.specs.Answers.{ofEmptied}
+use Rattle.csorvelin.proofs.Told.{told}
 use Rattle.csorvelin.proofs.csorvelin_empty.Statement.{statement}
 use Rattle.csorvelin.proofs.csorvelin_empty.Tie as tie
-
-returns : tie.Need-returns
-returns c =
-    let e = c .before .before .before .before .before .empty .ensures in
-    (rw (sym (e .0) ∙ c .before .length .given .1), e .1)
-
-returns-2 : tie.Need-returns-2
-returns-2 c =
-    let e = c .before .before .before .before .before .empty .ensures in
-    (rw (sym (e .0) ∙ c .before .refusal .given .1), e .1)
 
 pub csorvelin-empty-spec : {M : Type 1} → statement M
 csorvelin-empty-spec =
@@ -22,6 +13,10 @@ csorvelin-empty-spec =
     (λ c. search needs)
     (λ c. search needs)
     (λ c. search needs)
-    returns
+    (λ c.
+    let e = c .before .before .before .before .before .empty .ensures in
+    (told ofEmptied (e .0) (c .before .length .given .1), e .1))
     (λ c. search needs)
-    returns-2)
+    (λ c.
+    let e = c .before .before .before .before .before .empty .ensures in
+    (told ofEmptied (e .0) (c .before .refusal .given .1), e .1)))
