@@ -37,7 +37,7 @@ refusalIn (filed r k v) = r
 refusalIn (shown r p) = r
 refusalIn (named r k) = r
 
--- The used length that is handed on: that of the last accepted empty or file.
+-- The used length that the next call is given, where this one was given u.
 abbrev pub handed : Answer → ℕ → ℕ
 handed (emptied r v) u = accepted r v u
 handed (filed r k v) u = accepted r v u

@@ -10,7 +10,7 @@ abbrev pub accepted {ℓ} : {A : Type ℓ} → ℕ → A → A → A
 accepted zero a b = a
 accepted (suc r) a b = b
 
--- Refusal 23 of a filing: fewer than 96 bytes beyond the used length, or n = 1,000,000. Free space, the paper's term, is that it does not hold.
+-- Refusal 23 of a filing, "fewer than 96 bytes beyond the used length, or n = 1,000,000"; free space, the paper's term, is that it does not hold. `full-exactly` says it of plain numbers.
 unfoldable pub full : ℕ → ℕ → ℕ → Bool
 full size used n = ltb (size - used) recordSize || eqb n mostRecords
 

@@ -16,7 +16,7 @@ pub enum Filing {
     Refused(u32),
 }
 
-// The record with the highest figure.
+// The worst record.
 pub enum Highest {
     Number(u64),
     Refused(u32),
@@ -65,10 +65,9 @@ pub fn file(archive: &mut [u8], used: u64, case: &[u8]) -> Filing
     let figures = worked.figures;
     let n = records::count_at(archive, used);
     records::put_line(archive, n, case, figures);
-    Filing::Filed {
-        number: n as u64,
-        used: used + records::RECORD_SIZE as u64,
-    }
+    let number = n as u64;
+    let used = used + records::RECORD_SIZE as u64;
+    Filing::Filed { number, used }
 }
 
 // Show's refusal, 0 for none.
@@ -84,7 +83,7 @@ pub fn show_refusal(archive: &[u8], used: u64, number: u64) -> u32
     0
 }
 
-// The record of a number as a part of the archive, an empty part if refused.
+// Lends the record of a number out of the archive, and nothing of it where there is a refusal.
 pub fn show(archive: &[u8], used: u64, number: u64) -> &[u8]
     ensures { λ r. ⌜ now r ≡ showPart (now (archive .entry)) used number ⌝ }
 {
@@ -95,7 +94,7 @@ pub fn show(archive: &[u8], used: u64, number: u64) -> &[u8]
     &archive[at..at + records::RECORD_SIZE]
 }
 
-// The number of the record with the highest figure in a compartment from 1 to 4, the first filed among equals.
+// Which record is the worst in a compartment, 1 to 4 in the order of the figures.
 pub fn worst(archive: &[u8], used: u64, compartment: u64) -> Highest
     ensures { λ r. ⌜ r ≡ naming (now (archive .entry)) used compartment ⌝ }
 {

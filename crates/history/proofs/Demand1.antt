@@ -14,7 +14,7 @@ use Rattle.scenario.proofs.Refusals.{first-of-is-first, first-is-first-of, none
 use Rattle.records.specs.Layout.{recordSize}
 use Rattle.records.specs.Lines.{worstOf, IsWorst}
 use Rattle.records.specs.Buffer.{countAt, linesIn}
-use Rattle.records.proofs.RecordLaws.{length-decode}
+use Rattle.records.proofs.RecordLaws.{length-firstLines}
 use Rattle.records.proofs.WorstLine.{worst-is-highest}
 use Rattle.archive.specs.Archive.{emptyRefusals, emptyRefusal, emptying, emptyBytes, fileRefusals, fileRefusal, filing, fileBytes, showRefusals, showRefusal, showPart, worstRefusals, worstRefusal, naming}
 use Rattle.archive.specs.Answers.{ofEmptied, ofFiling, ofHighest, refusalIn}
@@ -90,7 +90,7 @@ some-worst : (b : List ℕ) (u m : ℕ) → worstRefusal b u m ≡ 0 → IsWorst
 unfolding worstRefusals
 some-worst b u m z =
     let n = eqb-false (countAt b u) 0 (none-holds (worstRefusals b u m) refl z 2) in
-    let l = length-decode recordSize (countAt b u) b in
+    let l = length-firstLines recordSize (countAt b u) b in
     worst-is-highest m (linesIn b u) (omega arith)
 
 worst-in-order : (call : WorstCall) → WorstInOrder call

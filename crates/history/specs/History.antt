@@ -81,7 +81,7 @@ pub record History (b : List ℕ) (cs : List Request) (rs : List Answer) (b″ :
 
 -- ── what holds after a history on a buffer of some size
 
--- of a line that is held: its case is within the ranges, its figures are those that work out gave, and they are within demand 2's bounds
+-- of a line that is held: its case passes the ranges, and its figures are a result of work out, and bounded as demand 2 asks
 pub record HeldLine (l : Line) : Type 0 where
   pub within-ranges : refusalOf (l .case) ≡ 0
   pub worked : WorkedOut (l .case) (l .figures)
@@ -91,7 +91,7 @@ abbrev pub AllHeld : List Line → Type 0
 AllHeld [] = Unit {0}
 AllHeld (l ∷ ls) = HeldLine l × AllHeld ls
 
--- the answers are the ledger's; the archive up to the used length is that of the ledger's lines; the buffer keeps its size
+-- Answers, archive and used length are what the ledger says, and the buffer keeps its size.
 pub record After (size : ℕ) (cs : List Request) (rs : List Answer) (b″ : List ℕ) (u″ : ℕ) : Type 0 where
   pub answered : rs ≡ answers size [] cs
   pub archive : take u″ b″ ≡ archiveOf recordSize edition (lines size [] cs)
@@ -101,7 +101,7 @@ pub record After (size : ℕ) (cs : List Request) (rs : List Answer) (b″ : Lis
 
 -- ── that there are such lists
 
--- a filing within the ranges comes with the figures that work out gives
+-- the figures of a filing are work out's, unless its case is refused
 abbrev pub Fed : Request → Type 0
 Fed empty = Unit {0}
 Fed (file c f) = refusalOf c ≡ 0 → f ≡ figuresOf c
@@ -112,7 +112,7 @@ abbrev pub AllFed : List Request → Type 0
 AllFed [] = Unit {0}
 AllFed (c ∷ cs) = Fed c × AllFed cs
 
--- some answers, buffer and used length of a list of calls; and of a history whose first empty answers 16
+-- some answers, buffer and used length of a run of cs; and of a history in which an empty that answers 16 comes before cs
 pub record RunOf (b : List ℕ) (u : ℕ) (cs : List Request) : Type 0 where
   pub answers : List Answer
   pub bytes : List ℕ

@@ -16,7 +16,7 @@ use Rattle.natural.proofs.Ceiling.{ceiling-at-most}
 use Rattle.binary64.specs.Bytes.{numberAt, splice}
 use Rattle.binary64.proofs.Numbers.{numberAt-small}
 use Rattle.binary64.proofs.Splice.{splice-join}
-use Rattle.records.specs.Layout.{Line, lineOf, decode, recordSize}
+use Rattle.records.specs.Layout.{Line, lineOf, firstLines, recordSize}
 use Rattle.listing.specs.Decimal.{decimal}
 use Rattle.listing.specs.Listing.{milligrams, columnsOf, columnsText, lineText, linesText}
 use Rattle.listing.proofs.Digits.{decimal-at-most}
@@ -47,14 +47,14 @@ pub length-record : (b : List ℕ) (k : ℕ) → recordSize * k + recordSize ≤
 length-record b k h = length-take-le recordSize (drop (recordSize * k) b) (rw length-drop (omega arith))
 
 unfoldable pub linesFrom : List ℕ → ℕ → ℕ → List ℕ
-linesFrom b n k = linesText k (decode recordSize (n - k) (drop (recordSize * k) b))
+linesFrom b n k = linesText k (firstLines recordSize (n - k) (drop (recordSize * k) b))
 
-pub lines-start : (b : List ℕ) (n : ℕ) → linesFrom b n 0 ≡ linesText 0 (decode recordSize n b)
+pub lines-start : (b : List ℕ) (n : ℕ) → linesFrom b n 0 ≡ linesText 0 (firstLines recordSize n b)
 unfolding linesFrom
 lines-start b n = rw sub-zero
 
 pub lines-step : (b : List ℕ) (n k : ℕ) → k < n → linesFrom b n k ≡ lineText k (lineOf (recordAt b k)) ++ linesFrom b n (k + 1)
-unfolding linesFrom linesText decode
+unfolding linesFrom linesText firstLines
 lines-step b n k h =
     let d : n - k ≡ suc (n - (k + 1)) = omega arith in
     let e : recordSize * (k + 1) ≡ recordSize * k + recordSize = omega arith in
@@ -64,7 +64,7 @@ pub length-lines-step : (b : List ℕ) (n k : ℕ) → k < n → length (linesFr
 length-lines-step b n k h = ap length (lines-step b n k h) ∙ length-append (lineText k (lineOf (recordAt b k))) (linesFrom b n (k + 1))
 
 pub lines-end : (b : List ℕ) (n k : ℕ) → n ≤ k → linesFrom b n k ≡ []
-unfolding linesFrom linesText decode
+unfolding linesFrom linesText firstLines
 lines-end b n k h = let d : n - k ≡ 0 = omega arith in rw d
 
 -- ── bounds
@@ -108,9 +108,9 @@ line-at-most r k h g =
     let columns = column-more _ 20 85 _ dossier (column-more _ 3 81 _ (byte 0) (column-more _ 3 77 _ (byte 1) (column-more _ 3 73 _ (byte 2) figures))) in
     omega (arith, length-line k (lineOf r), ap (λ (xs : List ℕ). length (columnsText xs)) (columns-are r), columns, decimal-at-most 2 k g)
 
-pub lines-at-most : (m k : ℕ) (b : List ℕ) → AreBytes b → k + m ≤ 1000 → length (linesText k (decode recordSize m b)) ≤ 109 * m
-unfolding linesText decode
+pub lines-at-most : (m k : ℕ) (b : List ℕ) → AreBytes b → k + m ≤ 1000 → length (linesText k (firstLines recordSize m b)) ≤ 109 * m
+unfolding linesText firstLines
 lines-at-most zero k b h g = omega arith
 lines-at-most (suc m) k b h g =
     let l = lineOf (take recordSize b) in
-    omega (arith, length-append (lineText k l) (linesText (k + 1) (decode recordSize m (drop recordSize b))), line-at-most (take recordSize b) k (take-bytes recordSize b h) (omega arith), lines-at-most m (k + 1) (drop recordSize b) (drop-bytes recordSize b h) (omega arith))
+    omega (arith, length-append (lineText k l) (linesText (k + 1) (firstLines recordSize m (drop recordSize b))), line-at-most (take recordSize b) k (take-bytes recordSize b h) (omega arith), lines-at-most m (k + 1) (drop recordSize b) (drop-bytes recordSize b h) (omega arith))

@@ -16,7 +16,7 @@ use lib.ListN.{length, take, length-append}
 use Rattle.binary64.specs.Bytes.{splice}
 use Rattle.binary64.proofs.Splice.{length-splice, splice-join, splice-read}
 use Rattle.scenario.proofs.Bools.{neither}
-use Rattle.records.specs.Layout.{decode, recordSize}
+use Rattle.records.specs.Layout.{firstLines, recordSize}
 use Rattle.records.specs.Buffer.{countAt, linesIn}
 use Rattle.records.proofs.Trailer.{sound-facts}
 use Rattle.listing.specs.Listing.{codes, header, refusal, linesText, mostOutput, refused, listingOf, holds, listed, listedBytes}
@@ -51,7 +51,7 @@ pub listing-refused : (b : List ℕ) → refused b ≡ true → listingOf b ≡ 
 unfolding listingOf
 listing-refused b e = rw e
 
-pub listing-accepted : (b : List ℕ) → refused b ≡ false → listingOf b ≡ header ++ linesText 0 (decode recordSize (countIn b) b)
+pub listing-accepted : (b : List ℕ) → refused b ≡ false → listingOf b ≡ header ++ linesText 0 (firstLines recordSize (countIn b) b)
 unfolding listingOf
 listing-accepted b e = rw e
 
@@ -60,9 +60,9 @@ unfolding refusal codes
 length-refused b e = ap length (listing-refused b e)
 
 -- of n records
-pub length-accepted : (b : List ℕ) {n m : ℕ} → refused b ≡ false → n ≡ countIn b → m ≡ length (linesText 0 (decode recordSize n b)) → 46 + m ≡ length (listingOf b)
+pub length-accepted : (b : List ℕ) {n m : ℕ} → refused b ≡ false → n ≡ countIn b → m ≡ length (linesText 0 (firstLines recordSize n b)) → 46 + m ≡ length (listingOf b)
 length-accepted b e n m =
-    rw (listing-accepted b e, length-append header (linesText 0 (decode recordSize (countIn b) b)), length-header, m, n)
+    rw (listing-accepted b e, length-append header (linesText 0 (firstLines recordSize (countIn b) b)), length-header, m, n)
 
 at-most-by : (b : List ℕ) → AreBytes b → (r : Bool) → refused b ≡ r → length (listingOf b) ≤ mostOutput
 at-most-by b h true e = omega (arith, length-refused b e)
@@ -75,10 +75,10 @@ pub listing-at-most : (b : List ℕ) → AreBytes b → length (listingOf b) ≤
 listing-at-most b h = at-most-by b h (refused b) refl
 
 pub listing-written : (b o : List ℕ) {n : ℕ} {p q : List ℕ} → refused b ≡ false → n ≡ countIn b → p ≡ splice o 0 header
-    → q ≡ splice p 46 (linesText 0 (decode recordSize n b)) → length (listingOf b) ≤ length o → q ≡ splice o 0 (listingOf b)
+    → q ≡ splice p 46 (linesText 0 (firstLines recordSize n b)) → length (listingOf b) ≤ length o → q ≡ splice o 0 (listingOf b)
 listing-written b o e n f g h =
     rw (listing-accepted b e)
-    (splice-join o 0 46 header (linesText 0 (decode recordSize (countIn b) b)) f (rw n at g) (omega (arith, length-header)) (omega (arith, length-accepted b e refl refl, length-header)))
+    (splice-join o 0 46 header (linesText 0 (firstLines recordSize (countIn b) b)) f (rw n at g) (omega (arith, length-header)) (omega (arith, length-accepted b e refl refl, length-header)))
 
 -- ── print
 

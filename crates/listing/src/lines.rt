@@ -3,7 +3,7 @@ ghost use mathlib.Core.Path.{_≡_};
 ghost use Prim.Native.Nat.{_+_, _*_, _≤_, _<_};
 ghost use lib.ListN.{length};
 ghost use Rattle.binary64.specs.Bytes.{splice};
-ghost use Rattle.records.specs.Layout.{decode, lineOf, recordSize};
+ghost use Rattle.records.specs.Layout.{firstLines, lineOf, recordSize};
 ghost use Rattle.listing.specs.Listing.{columnsOf, columnsText, lineText, linesText};
 ghost use Rattle.listing.specs.Listing.{milligrams as Listing·milligrams};
 use crate::decimal::decimal_length;
@@ -70,7 +70,7 @@ fn line_length(number: usize, bytes: &[u8]) -> usize
 // Of n records.
 pub fn lines_length(archive: &[u8], n: usize) -> usize
     requires { ⌜ (recordSize * n ≤ length (now archive)) × (n ≤ 682) ⌝ }
-    ensures { λ r. ⌜ r ≡ length (linesText 0 (decode recordSize n (now (archive .entry)))) ⌝ }
+    ensures { λ r. ⌜ r ≡ length (linesText 0 (firstLines recordSize n (now (archive .entry)))) ⌝ }
 {
     let mut sum: usize = 0;
     let mut k: usize = 0;
@@ -110,8 +110,8 @@ fn put_line(out: &mut [u8], at: usize, number: usize, bytes: &[u8]) -> usize
 
 // Writes the lines of n records from `start` on.
 pub fn put_lines(out: &mut [u8], start: usize, archive: &[u8], n: usize)
-    requires { ⌜ (recordSize * n ≤ length (now archive)) × (start + length (linesText 0 (decode recordSize n (now archive))) ≤ length (now out)) ⌝ }
-    ensures { λ _. ⌜ now (out .exit) ≡ splice (now (out .entry)) start (linesText 0 (decode recordSize n (now (archive .entry)))) ⌝ }
+    requires { ⌜ (recordSize * n ≤ length (now archive)) × (start + length (linesText 0 (firstLines recordSize n (now archive))) ≤ length (now out)) ⌝ }
+    ensures { λ _. ⌜ now (out .exit) ≡ splice (now (out .entry)) start (linesText 0 (firstLines recordSize n (now (archive .entry)))) ⌝ }
 {
     let mut at = start;
     let mut k: usize = 0;

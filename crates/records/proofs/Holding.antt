@@ -12,9 +12,9 @@ use lib.Seq.{take-at, drop-at}
 use Rattle.binary64.specs.Bytes.{bytesOf, numberAt, splice}
 use Rattle.binary64.proofs.Numbers.{length-bytesOf, numberOf-bytesOf}
 use Rattle.binary64.proofs.Splice.{length-splice}
-use Rattle.records.specs.Layout.{Line, noLine, recordOf, records, trailer, archiveOf, decode, trailerSize, usedLength, mostRecords, recordSize, edition, bytesAt}
+use Rattle.records.specs.Layout.{Line, noLine, recordOf, records, trailer, archiveOf, firstLines, trailerSize, usedLength, mostRecords, recordSize, edition, bytesAt}
 use Rattle.records.specs.Buffer.{countAt, distanceAt, editionAt, broken, linesIn, written}
-use Rattle.records.proofs.RecordLaws.{AllStorable, Storable, storable-snoc, length-recordOf, length-records, decode-records, record-at, records-snoc}
+use Rattle.records.proofs.RecordLaws.{AllStorable, Storable, storable-snoc, length-recordOf, length-records, firstLines-records, record-at, records-snoc}
 use Rattle.records.proofs.Trailer.{not-broken}
 use Rattle.records.proofs.Writing.{length-trailer}
 
@@ -81,7 +81,7 @@ module _ {b : List ℕ} {u : ℕ} {ls : List Line} (s : Holds b u ls) where
   })
 
   pub lines-are : linesIn b u ≡ ls
-  lines-are = rw count-is (ap (decode recordSize n) whole ∙ decode-records ls (trailer recordSize edition n ++ rest) (s .storable))
+  lines-are = rw count-is (ap (firstLines recordSize n) whole ∙ firstLines-records ls (trailer recordSize edition n ++ rest) (s .storable))
 
   pub record-is : (k : ℕ) → k < length ls → bytesAt b (recordSize * k) recordSize ≡ recordOf (getD ls k noLine)
   record-is k h = ap (λ (r : List ℕ). bytesAt r (recordSize * k) recordSize) whole ∙ record-at ls (trailer recordSize edition n ++ rest) k (s .storable) h

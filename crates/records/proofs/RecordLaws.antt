@@ -1,6 +1,6 @@
 -- Laws of records: what is written is read back.
--- Numbers: `number-back`, `figures-back`. Lines that a record holds: `Sized`, `Storable`, `AllStorable`, `storable-snoc`. Lengths: `length-recordOf`, `length-records`, `length-decode`.
--- Back: `line-record`, `decode-records`, `record-at`. One more line: `records-snoc`. Places: `numberAt-drop`, `part-take`, `part-drop`, `line-figures`.
+-- Numbers: `number-back`, `figures-back`. Lines that a record holds: `Sized`, `Storable`, `AllStorable`, `storable-snoc`. Lengths: `length-recordOf`, `length-records`, `length-firstLines`.
+-- Back: `line-record`, `firstLines-records`, `record-at`. One more line: `records-snoc`. Places: `numberAt-drop`, `part-take`, `part-drop`, `line-figures`.
 -- Searches over records are in `Scan`.
 use mathlib.Core.Path.{_≡_, refl, sym, ap, _∙_, subst}
 use mathlib.Core.List.{List, [], _∷_, _++_, append-assoc, append-nil}
@@ -11,7 +11,7 @@ use lib.ListN.{length, getD, take, drop, length-append}
 use lib.Seq.{take-at, drop-at, drop-append-add, drop-drop, take-take, take-nil}
 use Rattle.binary64.specs.Bytes.{bytesOf, numberOf, numberAt}
 use Rattle.binary64.proofs.Numbers.{length-bytesOf, numberOf-bytesOf}
-use Rattle.records.specs.Layout.{Line, noLine, figureBytes, figuresIn, recordOf, records, lineOf, decode, caseSize, recordSize, bytesAt}
+use Rattle.records.specs.Layout.{Line, noLine, figureBytes, figuresIn, recordOf, records, lineOf, firstLines, caseSize, recordSize, bytesAt}
 use Rattle.records.proofs.Writing.{length-figureBytes}
 
 -- ── places
@@ -93,16 +93,16 @@ length-records [] g = refl
 length-records (l ∷ ls) g =
     omega (arith, length-append (recordOf l) (records ls), length-recordOf l (g .0 .sized), length-records ls (g .1), mul-suc recordSize (length ls))
 
-pub length-decode : (width n : ℕ) (b : List ℕ) → length (decode width n b) ≡ n
-unfolding decode
-length-decode width zero b = refl
-length-decode width (suc n) b = ap suc (length-decode width n (drop width b))
+pub length-firstLines : (width n : ℕ) (b : List ℕ) → length (firstLines width n b) ≡ n
+unfolding firstLines
+length-firstLines width zero b = refl
+length-firstLines width (suc n) b = ap suc (length-firstLines width n (drop width b))
 
-pub decode-records : (ls : List Line) (r : List ℕ) → AllStorable ls → decode recordSize (length ls) (records ls ++ r) ≡ ls
-unfolding records decode
-decode-records [] r g = refl
-decode-records (l ∷ ls) r g =
-    rw (append-assoc (recordOf l) (records ls) r, take-at (recordOf l) (records ls ++ r) recordSize (length-recordOf l (g .0 .sized)), drop-at (recordOf l) (records ls ++ r) recordSize (length-recordOf l (g .0 .sized)), line-record l (g .0), decode-records ls r (g .1))
+pub firstLines-records : (ls : List Line) (r : List ℕ) → AllStorable ls → firstLines recordSize (length ls) (records ls ++ r) ≡ ls
+unfolding records firstLines
+firstLines-records [] r g = refl
+firstLines-records (l ∷ ls) r g =
+    rw (append-assoc (recordOf l) (records ls) r, take-at (recordOf l) (records ls ++ r) recordSize (length-recordOf l (g .0 .sized)), drop-at (recordOf l) (records ls ++ r) recordSize (length-recordOf l (g .0 .sized)), line-record l (g .0), firstLines-records ls r (g .1))
 
 pub record-at : (ls : List Line) (r : List ℕ) (k : ℕ) → AllStorable ls → k < length ls → bytesAt (records ls ++ r) (recordSize * k) recordSize ≡ recordOf (getD ls k noLine)
 unfolding records

@@ -12,28 +12,28 @@ use lib.Dec.{ltb, eqb}
 use lib.ListN.{length, getD, take, drop, length-drop}
 use lib.Seq.{drop-drop, getD-drop}
 use Rattle.binary64.specs.Bytes.{numberOf, numberAt}
-use Rattle.records.specs.Layout.{Line, figuresIn, lineOf, decode, recordSize, bytesAt}
+use Rattle.records.specs.Layout.{Line, figuresIn, lineOf, firstLines, recordSize, bytesAt}
 use Rattle.records.specs.Lines.{sameBytes, sameFiling, held, figure, highest, firstWith, firstAbove, worstOf}
 use Rattle.records.proofs.RecordLaws.{numberAt-drop, part-take, part-drop}
 
 -- ── the lines from record k on
 
 unfoldable pub from : List ℕ → ℕ → ℕ → List Line
-from b n k = decode recordSize (n - k) (drop (recordSize * k) b)
+from b n k = firstLines recordSize (n - k) (drop (recordSize * k) b)
 
-pub from-start : (b : List ℕ) (n : ℕ) → from b n 0 ≡ decode recordSize n b
+pub from-start : (b : List ℕ) (n : ℕ) → from b n 0 ≡ firstLines recordSize n b
 unfolding from
 from-start b n = rw sub-zero
 
 pub from-end : (b : List ℕ) (n k : ℕ) → n ≤ k → from b n k ≡ []
-unfolding from decode
+unfolding from firstLines
 from-end b n k h = let d : n - k ≡ 0 = omega arith in rw d
 
 pub lineAt : List ℕ → ℕ → Line
 lineAt b k = lineOf (take recordSize (drop (recordSize * k) b))
 
 pub from-cons : (b : List ℕ) (n k : ℕ) → k < n → from b n k ≡ lineAt b k ∷ from b n (k + 1)
-unfolding from decode lineAt
+unfolding from firstLines lineAt
 from-cons b n k h =
     let d : n - k ≡ suc (n - (k + 1)) = omega arith in
     let e : recordSize * (k + 1) ≡ recordSize * k + recordSize = omega arith in
@@ -181,7 +181,7 @@ above-none b n m k top h = rw (from-end b n k h)
 -- what is known before record k is looked at
 pub record Scanned (b : List ℕ) (n m k best top : ℕ) : Type 0 where
   pub most : k ≤ n
-  pub left : overall m k best top (from b n k) ≡ worstOf m (decode recordSize n b)
+  pub left : overall m k best top (from b n k) ≡ worstOf m (firstLines recordSize n b)
 
 pub scan-start : (b : List ℕ) (n m : ℕ) → Scanned b n m 0 0 0
 scan-start b n m = record { most = omega arith; left = overall-none m (from b n 0) ∙ ap (worstOf m) (from-start b n) }
@@ -226,7 +226,7 @@ scan-here b n m k best top j x p q s f h e =
     record { most = omega arith; left = (rw (here b n m j x p q h e) at o) ∙ r .scanned .left }
 
 -- no record is left that is above top
-pub scan-end : (b : List ℕ) (n m k best top : ℕ) → Scanned b n m k best top → n ≡ k + firstAbove m top (from b n k) → best ≡ worstOf m (decode recordSize n b)
+pub scan-end : (b : List ℕ) (n m k best top : ℕ) → Scanned b n m k best top → n ≡ k + firstAbove m top (from b n k) → best ≡ worstOf m (firstLines recordSize n b)
 unfolding overall highest
 scan-end b n m k best top s f =
     let r = pass b n m best top (n - k) k n (omega (arith, s .most)) s f in

@@ -6,7 +6,7 @@ use Prim.Native.Nat.{ℕ, _+_, _-_, _*_}
 use lib.Dec.{ltb, eqb}
 use lib.ListN.{length}
 use Rattle.binary64.specs.Bytes.{numberAt, splice}
-use Rattle.records.specs.Layout.{Line, recordOf, trailer, decode, trailerSize, usedLength, mostRecords, recordSize, edition}
+use Rattle.records.specs.Layout.{Line, recordOf, trailer, firstLines, trailerSize, usedLength, mostRecords, recordSize, edition}
 
 -- ── the trailer that ends at the used length
 
@@ -30,10 +30,10 @@ broken b u =
 
 -- the lines that the archive holds
 abbrev pub linesIn : List ℕ → ℕ → List Line
-linesIn b u = decode recordSize (countAt b u) b
+linesIn b u = firstLines recordSize (countAt b u) b
 
 -- ── one more line
 
--- Record and trailer are written behind the n records that are there, and no other byte.
+-- The buffer with a record put behind the n that it has, and the trailer behind that.
 unfoldable pub written : List ℕ → ℕ → Line → List ℕ
 written b n l = splice b (recordSize * n) (recordOf l ++ trailer recordSize edition (n + 1))

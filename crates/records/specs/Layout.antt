@@ -21,16 +21,16 @@ unfoldable pub figureBytes : List ℕ → List ℕ
 figureBytes [] = []
 figureBytes (x ∷ xs) = bytesOf 8 x ++ figureBytes xs
 
--- the record made from a line: the case, then its figures
+-- the record of a line
 unfoldable pub recordOf : Line → List ℕ
 recordOf l = l .case ++ figureBytes (l .figures)
 
--- the records made from lines, in their order
+-- one record behind another
 unfoldable pub records : List Line → List ℕ
 records [] = []
 records (l ∷ ls) = recordOf l ++ records ls
 
--- the trailer of n records: the distance from its own first byte back to the first record, then n, then the edition
+-- the trailer of n records: how far before it they begin, then n, then the edition
 unfoldable pub trailer : ℕ → ℕ → ℕ → List ℕ
 trailer width edition n = bytesOf 8 (width * n) ++ bytesOf 4 n ++ bytesOf 4 edition
 
@@ -77,6 +77,6 @@ unfoldable pub lineOf : List ℕ → Line
 lineOf r = record { case = take caseSize r; figures = figuresIn 4 (drop caseSize r) }
 
 -- the lines of the first n records, each as long as the width
-unfoldable pub decode : ℕ → ℕ → List ℕ → List Line
-decode width zero b = []
-decode width (suc n) b = lineOf (take width b) ∷ decode width n (drop width b)
+unfoldable pub firstLines : ℕ → ℕ → List ℕ → List Line
+firstLines width zero b = []
+firstLines width (suc n) b = lineOf (take width b) ∷ firstLines width n (drop width b)

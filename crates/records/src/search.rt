@@ -2,7 +2,7 @@
 ghost use mathlib.Core.Path.{_≡_};
 ghost use Prim.Native.Nat.{_+_, _-_, _*_, _≤_, _<_};
 ghost use lib.ListN.{length, drop};
-ghost use Rattle.records.specs.Layout.{decode, recordSize};
+ghost use Rattle.records.specs.Layout.{firstLines, recordSize};
 ghost use Rattle.records.specs.Lines.{held, firstAbove, worstOf};
 use crate::RECORD_SIZE;
 use binary64::bytes::u32_at;
@@ -11,7 +11,7 @@ use binary64::bytes::u64_at;
 // Whether one of n records is the same filing as the case.
 pub fn is_held(archive: &[u8], n: usize, case: &[u8]) -> bool
     requires { ⌜ (recordSize * n ≤ length (now archive)) × (length (now case) ≡ 64) ⌝ }
-    ensures { λ r. ⌜ r ≡ held (decode recordSize n (now (archive .entry))) (now (case .entry)) ⌝ }
+    ensures { λ r. ⌜ r ≡ held (firstLines recordSize n (now (archive .entry))) (now (case .entry)) ⌝ }
 {
     let head = u32_at(case, 0);
     let dossier = u64_at(case, 8);
@@ -29,7 +29,7 @@ pub fn is_held(archive: &[u8], n: usize, case: &[u8]) -> bool
 // The first of n records, from record k on, whose figure is above `top`; n where none is.
 fn next_above(archive: &[u8], n: usize, compartment: usize, k: usize, top: u64) -> usize
     requires { ⌜ (recordSize * n ≤ length (now archive)) × (1 ≤ compartment) × (compartment ≤ 4) × (k ≤ n) ⌝ }
-    ensures { λ r. ⌜ r ≡ k + firstAbove compartment top (decode recordSize (n - k) (drop (recordSize * k) (now (archive .entry)))) ⌝ }
+    ensures { λ r. ⌜ r ≡ k + firstAbove compartment top (firstLines recordSize (n - k) (drop (recordSize * k) (now (archive .entry)))) ⌝ }
 {
     let place = 56 + 8 * compartment;
     let mut i = k;
@@ -45,7 +45,7 @@ fn next_above(archive: &[u8], n: usize, compartment: usize, k: usize, top: u64) 
 // The number of the first of n records whose figure is the highest: from each record that is above all before it to the next.
 pub fn worst_of(archive: &[u8], n: usize, compartment: usize) -> usize
     requires { ⌜ (recordSize * n ≤ length (now archive)) × (1 ≤ compartment) × (compartment ≤ 4) ⌝ }
-    ensures { λ r. ⌜ r ≡ worstOf compartment (decode recordSize n (now (archive .entry))) ⌝ }
+    ensures { λ r. ⌜ r ≡ worstOf compartment (firstLines recordSize n (now (archive .entry))) ⌝ }
 {
     let place = 56 + 8 * compartment;
     let mut k: usize = 0;

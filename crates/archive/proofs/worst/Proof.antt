@@ -4,7 +4,7 @@ use Prim.Native.Nat.{ℕ}
 use native.Mathlib.Omega.{arith}
 use borrow.Author.Needs.{needs}
 use borrow.Author.Tests.{eq-eqb, ne-eqb}
-use Rattle.records.specs.Layout.{decode, recordSize}
+use Rattle.records.specs.Layout.{firstLines, recordSize}
 use Rattle.records.specs.Lines.{worstOf}
 use Rattle.archive.specs.Archive.{worstRefusals, naming}
 use Rattle.archive.specs.declared.Highest.the-variants.{Number}
@@ -34,7 +34,7 @@ returns-4 c =
     let s = n .before in
     let a = s .before .before .before .before .args in
     rw (s .before .before .if1 .left, sym (s .before .is-broken .ensures) ∙ s .if2 .left, ne-eqb _ _ (λ e. c .before .if3 .left (n .count-at .ensures ∙ e)))
-    (ap Number (c .worst-of .ensures ∙ ap (λ (m : ℕ). worstOf (a .compartment) (decode recordSize m (a .archive .now))) (n .count-at .ensures)))
+    (ap Number (c .worst-of .ensures ∙ ap (λ (m : ℕ). worstOf (a .compartment) (firstLines recordSize m (a .archive .now))) (n .count-at .ensures)))
 
 pub worst-spec : {M : Type 1} → statement M
 worst-spec =

@@ -4,14 +4,14 @@ use mathlib.Core.List.{List}
 use Prim.Native.Nat.{ℕ, _+_, _-_, _≤_}
 use native.Mathlib.Omega.{arith}
 use lib.ListN.{length}
-use Rattle.records.specs.Layout.{lineOf, decode, recordSize}
+use Rattle.records.specs.Layout.{lineOf, firstLines, recordSize}
 use Rattle.listing.specs.Listing.{lineText, linesText}
 use Rattle.listing.proofs.RecordLines.{recordAt, record-part, length-record, linesFrom, lines-start, length-lines-step, lines-end, lines-at-most}
 use Rattle.listing.proofs.lines.lines_length.Statement.{statement}
 use Rattle.listing.proofs.lines.lines_length.Tie as tie
 
 abbrev Inv-loop : tie.InvT-loop
-Inv-loop archive n sum₀ k₀ sum k = (k ≤ n) × (sum + length (linesFrom archive n k) ≡ length (linesText 0 (decode recordSize n archive)))
+Inv-loop archive n sum₀ k₀ sum k = (k ≤ n) × (sum + length (linesFrom archive n k) ≡ length (linesText 0 (firstLines recordSize n archive)))
 
 abbrev μ-loop : tie.MeasureT-loop
 μ-loop archive n sum₀ k₀ sum k = n - k

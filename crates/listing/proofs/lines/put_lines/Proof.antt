@@ -7,7 +7,7 @@ use borrow.Author.Needs.{needs}
 use lib.ListN.{length}
 use Rattle.binary64.specs.Bytes.{splice}
 use Rattle.binary64.proofs.Splice.{splice-nil, splice-join}
-use Rattle.records.specs.Layout.{lineOf, decode, recordSize}
+use Rattle.records.specs.Layout.{lineOf, firstLines, recordSize}
 use Rattle.listing.specs.Listing.{lineText, linesText}
 use Rattle.listing.proofs.RecordLines.{recordAt, record-part, length-record, linesFrom, lines-start, lines-step, length-lines-step, lines-end}
 use Rattle.listing.proofs.lines.put_lines.Statement.{statement}
@@ -15,8 +15,8 @@ use Rattle.listing.proofs.lines.put_lines.Tie as tie
 
 abbrev Inv-loop : tie.InvT-loop
 Inv-loop out₀ start archive n at₀ k₀ out at k =
-    (k ≤ n) × (length out ≡ length out₀) × (at + length (linesFrom archive n k) ≡ start + length (linesText 0 (decode recordSize n archive)))
-    × (splice out at (linesFrom archive n k) ≡ splice out₀ start (linesText 0 (decode recordSize n archive)))
+    (k ≤ n) × (length out ≡ length out₀) × (at + length (linesFrom archive n k) ≡ start + length (linesText 0 (firstLines recordSize n archive)))
+    × (splice out at (linesFrom archive n k) ≡ splice out₀ start (linesText 0 (firstLines recordSize n archive)))
 
 abbrev μ-loop : tie.MeasureT-loop
 μ-loop out₀ start archive n at₀ k₀ out at k = n - k

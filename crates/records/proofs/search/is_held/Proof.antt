@@ -3,14 +3,14 @@ use mathlib.Core.Path.{_≡_, sym, ap, _∙_}
 use mathlib.Core.List.{List}
 use Prim.Native.Nat.{_-_, _≤_}
 use native.Mathlib.Omega.{arith}
-use Rattle.records.specs.Layout.{Line, decode, recordSize}
+use Rattle.records.specs.Layout.{Line, firstLines, recordSize}
 use Rattle.records.specs.Lines.{held}
 use Rattle.records.proofs.Scan.{from, from-start, same-numbers, held-step, held-none}
 use Rattle.records.proofs.search.is_held.Statement.{statement}
 use Rattle.records.proofs.search.is_held.Tie as tie
 
 abbrev Inv-loop : tie.InvT-loop
-Inv-loop archive n case head dossier k₀ k = (k ≤ n) × (held (decode recordSize n archive) case ≡ held (from archive n k) case)
+Inv-loop archive n case head dossier k₀ k = (k ≤ n) × (held (firstLines recordSize n archive) case ≡ held (from archive n k) case)
 
 abbrev μ-loop : tie.MeasureT-loop
 μ-loop archive n case head dossier k₀ k = n - k
