@@ -13,6 +13,10 @@ pub fn write_number(before: &[u8], x: u64) {
     io::print_decimal(STDOUT_FILENO, x);
 }
 
+fn write_refusal(number: u32) {
+    write_number(b": refused ", number as u64);
+}
+
 fn write_figures(before: &[u8], figures: [u64; 4]) {
     write_number(before, figures[0]);
     write_number(b" ", figures[1]);
@@ -23,7 +27,7 @@ fn write_figures(before: &[u8], figures: [u64; 4]) {
 pub fn work_out(case: &[u8]) {
     let worked = emission::work_out(case);
     if worked.refusal != 0 {
-        write_number(b": refused ", worked.refusal as u64);
+        write_refusal(worked.refusal);
         return;
     }
     let figures = worked.figures;
@@ -38,7 +42,7 @@ pub fn empty(archive: &mut [u8]) -> u64 {
             length
         }
         Emptied::Refused(n) => {
-            write_number(b": refused ", n as u64);
+            write_refusal(n);
             0
         }
     }
@@ -56,7 +60,7 @@ pub fn file(archive: &mut [u8], used: u64, case: &[u8]) -> u64 {
             length
         }
         Filing::Refused(n) => {
-            write_number(b": refused ", n as u64);
+            write_refusal(n);
             used
         }
     }
@@ -67,7 +71,7 @@ pub fn show(archive: &[u8], used: u64, number: u64) {
     let refusal = archive::show_refusal(archive, used, number);
     let part = archive::show(archive, used, number);
     if refusal != 0 {
-        write_number(b": refused ", refusal as u64);
+        write_refusal(refusal);
         write_number(b", bytes ", part.len() as u64);
         return;
     }
@@ -78,7 +82,7 @@ pub fn show(archive: &[u8], used: u64, number: u64) {
 pub fn worst(archive: &[u8], used: u64, compartment: u64) {
     match archive::worst(archive, used, compartment) {
         Highest::Number(k) => write_number(b": number ", k),
-        Highest::Refused(n) => write_number(b": refused ", n as u64),
+        Highest::Refused(n) => write_refusal(n),
     }
 }
 

@@ -6,11 +6,11 @@ ghost use Rattle.records.specs.Layout.{usedLength, recordSize};
 use crate::calls::write;
 use crate::calls::write_number;
 use crate::numbers::least;
-use records::figures_at;
-use records::put_line;
 use binary64::bytes::put_u64;
 use listing::Listed;
 use listing::MOST_OUTPUT;
+use records::figures_at;
+use records::put_line;
 
 // Prints the listing by way of a buffer; all of the buffer, which is as it was, where that is too short.
 fn list_by(archive: &[u8], out: &mut [u8]) {

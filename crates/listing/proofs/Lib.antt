@@ -4,3 +4,4 @@ pub mod Stores
 pub mod Columns
 pub mod RecordLines
 pub mod Whole
+pub mod Example

@@ -5,11 +5,12 @@ ghost use Prim.Native.Nat.{_≤_};
 ghost use lib.ListN.{length};
 ghost use Rattle.binary64.specs.Bytes.{splice};
 ghost use Rattle.listing.specs.Listing.{refused, listingOf, listed, listedBytes};
+use binary64::bytes::put_bytes;
 use records::count_at;
 use records::is_broken;
 
-pub mod decimal;
-pub mod lines;
+mod decimal;
+mod lines;
 
 // The most bytes that are taken, and the most that a listing has.
 pub const MOST_INPUT: usize = 65536;
@@ -47,11 +48,11 @@ fn put_listing(out: &mut [u8], archive: &[u8])
     ensures { λ _. ⌜ now (out .exit) ≡ splice (now (out .entry)) 0 (listingOf (now (archive .entry))) ⌝ }
 {
     if is_refused(archive) {
-        lines::put_text(out, 0, b"refused 21\n");
+        put_bytes(out, 0, b"refused 21\n");
         return;
     }
     let n = count_at(archive, archive.len() as u64);
-    lines::put_text(out, 0, b"n dossier kind row route stp surface air soil\n");
+    put_bytes(out, 0, b"n dossier kind row route stp surface air soil\n");
     lines::put_lines(out, HEADER_SIZE, archive, n);
 }
 

@@ -82,18 +82,6 @@ pub fn lines_length(archive: &[u8], n: usize) -> usize
     sum
 }
 
-// Writes a text from `at` on.
-pub fn put_text(out: &mut [u8], at: usize, text: &[u8])
-    requires { ⌜ at + length (now text) ≤ length (now out) ⌝ }
-    ensures { λ _. ⌜ now (out .exit) ≡ splice (now (out .entry)) at (now (text .entry)) ⌝ }
-{
-    let mut i = 0;
-    while i < text.len() {
-        out[at + i] = text[i];
-        i += 1;
-    }
-}
-
 // Writes columns from `start` on, each behind a space, then a line feed, and gives the place behind it.
 fn put_columns(out: &mut [u8], start: usize, columns: &[u64]) -> usize
     requires { ⌜ start + length (columnsText (now columns)) ≤ length (now out) ⌝ }

@@ -13,7 +13,7 @@ returns : tie.Need-returns
 unfolding codes refusal
 returns c =
     let t = c .before .before .before .before .before in
-    c .before .before .put-text .ensures ∙ ap (splice _ 0) (sym (listing-refused _ (sym (t .before .is-refused .ensures) ∙ t .if1 .taken)))
+    c .before .before .put-bytes .ensures ∙ ap (splice _ 0) (sym (listing-refused _ (sym (t .before .is-refused .ensures) ∙ t .if1 .taken)))
 
 accepted : (c : tie.Else1) → refused (c .before .before .before .before .args .archive .now) ≡ false
 accepted c = sym (c .before .is-refused .ensures) ∙ c .if1 .left
@@ -23,13 +23,13 @@ put-lines-requires c κs =
     let n = c .before .before .before .before .before .before in
     let e = accepted (n .before) in
     let f = accepted-facts _ e in
-    (omega (arith, n .count-at .ensures, f .inside), omega (arith, length-accepted _ e (n .count-at .ensures) refl, c .before .before .before .put-text2 .kept .0, n .before .before .before .before .before .pre))
+    (omega (arith, n .count-at .ensures, f .inside), omega (arith, length-accepted _ e (n .count-at .ensures) refl, c .before .before .before .put-bytes2 .kept .0, n .before .before .before .before .before .pre))
 
 returns-2 : tie.Need-returns-2
 unfolding codes header
 returns-2 c =
     let n = c .before .before .before .before .before .before .before .before .before in
-    listing-written _ _ (accepted (n .before)) (n .count-at .ensures) (c .before .before .before .before .before .before .put-text2 .ensures) (c .before .before .put-lines .ensures) (n .before .before .before .before .before .pre)
+    listing-written _ _ (accepted (n .before)) (n .count-at .ensures) (c .before .before .before .before .before .before .put-bytes2 .ensures) (c .before .before .put-lines .ensures) (n .before .before .before .before .before .pre)
 
 pub put-listing-spec : {M : Type 1} → statement M
 put-listing-spec =
