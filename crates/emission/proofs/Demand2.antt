@@ -1,7 +1,7 @@
 -- Demand 2, of the result of a call of `work_out`: what its own contract, as the toolchain reads it (`Reads.Learnt`), says.
 --   bounds-of-ceiling   an exact value rounded up is within the bounds, at any margin
 --   figures-within      the bounds of an accepted case's figures, wherever they are worked out or filed
---   Call, met           a call of `work_out`; that the function meets the contract which a call goes by
+--   WorkOutCall, met    a call of `work_out`; that the function meets the contract which a call goes by
 --   figure-exact        an accepted result's figures are the exact values rounded up
 --   figure-bounds       each is within the bounds: never below, hardly above, zero exactly when the value is zero
 --   zero-iff            the last part by itself
@@ -14,14 +14,12 @@ use native.Mathlib.Nat.{mul-le-mul-right}
 use native.Mathlib.Omega.{arith}
 use lib.ListN.{getD}
 use denote.Ref.{now}
-use denote.Triple.Clauses.{AtExit}
-use contract.Lifetimes.{Lfts}
-use borrow.Fn.Kinds as kinds
 use Rattle.natural.proofs.Ceiling.{ceiling-not-below, ceiling-less-than-one-above, ceiling-zero}
 use Rattle.product.specs.Ratio.{Ratio, _over_, roundedUp}
 use Rattle.scenario.specs.Refusal.{IsFirst}
 use Rattle.scenario.specs.Case.{refusals, refusalOf}
 use Rattle.scenario.proofs.Refusals.{refusal-order}
+use Rattle.emission.specs.Called.{Called}
 use Rattle.emission.specs.Figures.{exactValues, figuresOf, WithinBounds, margin}
 use Rattle.emission.proofs.Accepted.{figures-exact, figure-rounded, figures-refused}
 use Rattle.emission.proofs.Positive.{lower-not-zero}
@@ -59,39 +57,34 @@ figures-within = figures-within-at margin
 
 -- ── a call of `work_out`
 
--- any lifetimes, arguments, result and parameters at exit of which its contract's promise holds
-pub record Call : Type 0 where
-  pub lifetimes : Lfts 1
-  pub args : kinds.Dens lifetimes work-out-kinds.ps
-  pub result : kinds.resT work-out-kinds.r lifetimes .Denot
-  pub ends : AtExit (kinds.endedOf 1 work-out-kinds.ps work-out-kinds.r) lifetimes
-  pub kept : work-out-reads.Learnt lifetimes args result ends
+abbrev pub WorkOutCall : Type 0
+WorkOutCall = Called 1 work-out-kinds.ps work-out-kinds.r work-out-reads.Learnt
 
 pub met : {M : Type 1} → work-out-statement.statement M
 met = work-out-met.met
 
 -- the bytes of the case that it was called on
-abbrev pub bytes : Call → List ℕ
+abbrev pub bytes : WorkOutCall → List ℕ
 bytes c = now (c .args .0)
 
-pub figure-exact : (c : Call) → c .result .refusal ≡ 0 → c .result .figures ≡ map roundedUp (exactValues (bytes c))
+pub figure-exact : (c : WorkOutCall) → c .result .refusal ≡ 0 → c .result .figures ≡ map roundedUp (exactValues (bytes c))
 figure-exact c e = c .kept .1 ∙ figures-exact (bytes c) (sym (c .kept .0) ∙ e)
 
 -- at any margin
-pub figure-bounds-at : (m : ℕ) (c : Call) → c .result .refusal ≡ 0 → (i : ℕ) → i < 4 → WithinBounds m (getD (exactValues (bytes c)) i (0 over 1)) (getD (c .result .figures) i 0)
+pub figure-bounds-at : (m : ℕ) (c : WorkOutCall) → c .result .refusal ≡ 0 → (i : ℕ) → i < 4 → WithinBounds m (getD (exactValues (bytes c)) i (0 over 1)) (getD (c .result .figures) i 0)
 figure-bounds-at m c e i h = rw (c .kept .1) (figures-within-at m (bytes c) (sym (c .kept .0) ∙ e) i h)
 
-pub figure-bounds : (c : Call) → c .result .refusal ≡ 0 → (i : ℕ) → i < 4 → WithinBounds margin (getD (exactValues (bytes c)) i (0 over 1)) (getD (c .result .figures) i 0)
+pub figure-bounds : (c : WorkOutCall) → c .result .refusal ≡ 0 → (i : ℕ) → i < 4 → WithinBounds margin (getD (exactValues (bytes c)) i (0 over 1)) (getD (c .result .figures) i 0)
 figure-bounds = figure-bounds-at margin
 
-pub zero-iff : (c : Call) → c .result .refusal ≡ 0 → (i : ℕ) → i < 4
+pub zero-iff : (c : WorkOutCall) → c .result .refusal ≡ 0 → (i : ℕ) → i < 4
     → (getD (c .result .figures) i 0 ≡ 0 → getD (exactValues (bytes c)) i (0 over 1) .upper ≡ 0) × (getD (exactValues (bytes c)) i (0 over 1) .upper ≡ 0 → getD (c .result .figures) i 0 ≡ 0)
 zero-iff c e i h = let w = figure-bounds c e i h in (w .zero-only, w .zero-then)
 
 -- ── demand 1, of the same call
 
-pub refusal-first : (c : Call) → IsFirst (refusals (bytes c)) (c .result .refusal)
+pub refusal-first : (c : WorkOutCall) → IsFirst (refusals (bytes c)) (c .result .refusal)
 refusal-first c = refusal-order (bytes c) (c .result .refusal) .0 (sym (c .kept .0))
 
-pub refused-no-figure : (c : Call) → (c .result .refusal ≡ 0 → ⊥) → c .result .figures ≡ 0 ∷ 0 ∷ 0 ∷ 0 ∷ []
+pub refused-no-figure : (c : WorkOutCall) → (c .result .refusal ≡ 0 → ⊥) → c .result .figures ≡ 0 ∷ 0 ∷ 0 ∷ 0 ∷ []
 refused-no-figure c h = c .kept .1 ∙ sym (figures-refused (bytes c) (λ (z : refusalOf (bytes c) ≡ 0). h (c .kept .0 ∙ z)))

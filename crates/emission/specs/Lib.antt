@@ -6,3 +6,4 @@ pub mod Figures
 pub mod Ranges
 pub mod Constants
 pub mod WorkedExamples
+pub mod Called

@@ -1,14 +1,11 @@
--- A call of a function: whatever arguments, result and parameters at exit its own contract, as the toolchain reads it, allows.
--- Then the calls of `archive` and of work out, and what demand 1 asks of each of them.
+-- The calls of `archive` and of work out, and what demand 1 asks of each of them.
 use mathlib.Core.Path.{_≡_}
 use mathlib.Core.List.{List}
 use Prim.Native.Nat.{ℕ, _+_, _*_}
-use borrow.Fn.Kinds as kinds
-use contract.Lifetimes.{Lfts}
 use denote.Ref.{now}
-use denote.Triple.Clauses.{AtExit}
 use Rattle.binary64.specs.Bytes.{splice}
 use Rattle.scenario.specs.Refusal.{Condition, IsFirst}
+use Rattle.emission.specs.Called.{Called}
 use Rattle.emission.proofs.work_out.Kinds as work-out-kinds
 use Rattle.emission.proofs.work_out.Reads as work-out-reads
 use Rattle.records.specs.Layout.{trailer, usedLength, recordSize, edition, bytesAt}
@@ -29,14 +26,6 @@ use Rattle.archive.proofs.show_refusal.Kinds as show-refusal-kinds
 use Rattle.archive.proofs.show_refusal.Reads as show-refusal-reads
 use Rattle.archive.proofs.worst.Kinds as worst-kinds
 use Rattle.archive.proofs.worst.Reads as worst-reads
-
--- promise: what the contract ensures of lifetimes, arguments, result and parameters at exit
-pub record Called (n : ℕ) (ps : List (kinds.PK n)) (r : kinds.RK n) (promise : kinds.Out n ps r) : Type 0 where
-  pub κs : Lfts n
-  pub args : kinds.Dens κs ps
-  pub result : kinds.resT r κs .Denot
-  pub ends : AtExit (kinds.endedOf n ps r) κs
-  pub kept : promise κs args result ends
 
 abbrev pub WorkOutCall : Type 0
 WorkOutCall = Called 1 work-out-kinds.ps work-out-kinds.r work-out-reads.Learnt
