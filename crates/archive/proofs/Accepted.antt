@@ -14,11 +14,11 @@ use Rattle.records.specs.Fields.{fields, noField, fieldBytes}
 use Rattle.records.specs.Buffer.{countAt, written}
 use Rattle.records.proofs.Trailer.{Sound, sound-facts}
 use Rattle.records.proofs.FieldTable.{written-field}
-use Rattle.archive.specs.Archive.{showRefusals, showRefusal, fileRefusal, filing, lineFor, fileBytes}
+use Rattle.archive.specs.Archive.{showRefusals, showRefusal, fromState, fileRefusal, filing, lineFor, fileBytes}
 use Rattle.archive.specs.declared.Filing.the-variants.{Filed, Refused}
 use Rattle.scenario.proofs.Refusals.{none-holds}
 use Rattle.archive.proofs.Cases.{sized-line}
-use Rattle.archive.proofs.Refusals.{full-exactly, fromState, both-zero, file-refusal-is, accepted-refused}
+use Rattle.archive.proofs.Refusals.{full-exactly, both-zero, file-refusal-is, accepted-refused}
 
 -- ── show that is not refused
 

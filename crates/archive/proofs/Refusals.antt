@@ -1,24 +1,21 @@
 -- Laws of the refusals of this crate's calls. The laws of any list of conditions are scenario's.
 -- `compartment-within` (12 does not hold); `accepted-refused` (what stands beside a refusal); `full-exactly` (23 of a filing, in plain numbers).
--- A filing's list begins with the case's own: `behind-case`, `file-refusal-is`, with `fromState` for what follows; `both-zero`, `case-refused`.
+-- A filing's list begins with the case's own: `behind-case`, `file-refusal-is`; `both-zero`, `case-refused`.
 -- That a refusal is the first that holds is in `history`.
 use mathlib.Core.Path.{_≡_, refl}
 use mathlib.Core.Bool.{false, cond}
-use mathlib.Core.List.{List, [], _∷_, _++_}
+use mathlib.Core.List.{List, _++_}
 use Prim.Native.Nat.{ℕ, zero, suc, _+_, _-_, _≤_}
 use native.Mathlib.Omega.{arith}
 use borrow.Author.Tests.{ltb-false, eqb-false, le-ltb, ne-eqb}
 use lib.Dec.{ltb, eqb}
-use lib.ListN.{length}
-use Rattle.scenario.specs.Refusal.{Condition, _when_, firstOf}
+use Rattle.scenario.specs.Refusal.{Condition, firstOf}
 use Rattle.scenario.specs.Case.{refusals, refusalOf}
 use Rattle.scenario.proofs.Bools.{neither}
 use Rattle.scenario.proofs.Refusals.{first-of-append, first-of-some}
 use Rattle.archive.specs.Conditions.{accepted, full, notCompartment}
 use Rattle.records.specs.Layout.{mostRecords, recordSize}
-use Rattle.records.specs.Lines.{held}
-use Rattle.records.specs.Buffer.{countAt, broken, linesIn}
-use Rattle.archive.specs.Archive.{fileRefusals, fileRefusal}
+use Rattle.archive.specs.Archive.{fromState, fileRefusals, fileRefusal}
 
 pub compartment-within : (m : ℕ) → notCompartment m ≡ false → (1 ≤ m) × (m ≤ 4)
 compartment-within m e = let p = neither (ltb m 1) (ltb 4 m) e in (ltb-false m 1 (p .0), ltb-false 4 m (p .1))
@@ -44,10 +41,6 @@ pub full-exactly : (size used n : ℕ) → (full size used n ≡ false → (used
 full-exactly size used n = (free-then size used n, then-free size used n)
 
 -- ── file
-
--- a filing's refusals from the state
-abbrev pub fromState : List ℕ → ℕ → List ℕ → List Condition
-fromState b u c = (21 when broken b u) ∷ (22 when held (linesIn b u) c) ∷ (23 when full (length b) u (countAt b u)) ∷ []
 
 -- a refusal r, or another behind it
 abbrev pub orElse : ℕ → ℕ → ℕ

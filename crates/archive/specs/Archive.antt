@@ -36,9 +36,12 @@ emptyBytes b = accepted (emptyRefusal b) (splice b 0 (trailer recordSize edition
 
 -- ── file
 
+-- from the state, behind the case's own
+abbrev pub fromState : List ℕ → ℕ → List ℕ → List Condition
+fromState b u c = (21 when broken b u) ∷ (22 when held (linesIn b u) c) ∷ (23 when full (length b) u (countAt b u)) ∷ []
+
 unfoldable pub fileRefusals : List ℕ → ℕ → List ℕ → List Condition
-fileRefusals b u c =
-    refusals c ++ ((21 when broken b u) ∷ (22 when held (linesIn b u) c) ∷ (23 when full (length b) u (countAt b u)) ∷ [])
+fileRefusals b u c = refusals c ++ fromState b u c
 
 abbrev pub fileRefusal : List ℕ → ℕ → List ℕ → ℕ
 fileRefusal b u c = firstOf (fileRefusals b u c)

@@ -1,5 +1,5 @@
 -- Demand 1, of calls of the very functions.
--- `refusal-order`: of each call, the refusal is the first of its list that holds, otherwise the result is the stated one.
+-- `refusals-in-order`: of each call, the refusal is the first of its list that holds, otherwise the result is the stated one.
 -- `unchanged`: a refusal leaves every byte as it was, and shows none.
 -- So that they say something: `met` (the functions meet the contracts that a call goes by) and `asks-nothing` (no call asks anything of its caller).
 use mathlib.Core.Path.{_≡_, refl, sym, ap, _∙_, subst}
@@ -103,12 +103,12 @@ worst-in-order call =
     (ap (λ r. refusalIn (ofHighest r)) (call .kept) ∙ ap refusalIn (of-naming b u m))
     (λ z. (call .kept ∙ rw z, some-worst b u m z))
 
-pub refusal-order :
+pub refusals-in-order :
     ((call : EmptyCall) → EmptyInOrder call)
     × ((call : FileCall) → FileInOrder call)
     × ((call : ShowCall) (told : ShowRefusalCall) → SameArguments call told → ShowInOrder call told)
     × ((call : WorstCall) → WorstInOrder call)
-refusal-order = (empty-in-order, file-in-order, show-in-order, worst-in-order)
+refusals-in-order = (empty-in-order, file-in-order, show-in-order, worst-in-order)
 
 -- ── a refusal changes nothing
 

@@ -23,7 +23,7 @@ use Rattle.archive.specs.declared.Filing.the-variants.{Filed, Refused}
 use Rattle.archive.proofs.Refusals.{full-exactly, file-refusal-is}
 use Rattle.history.specs.Calls.{FileCall}
 use Rattle.history.specs.Ledger.{Request, empty, file, judgedFile, answer, lines}
-use Rattle.history.specs.History.{EmptyTurn, FileTurn, Run, next, History}
+use Rattle.history.specs.History.{EmptyTurn, FileTurn, Run, next, History, BySpace}
 use Rattle.history.proofs.Turns.{Stands, kept, first-stands, emptying-answer, judged-file-is}
 use Rattle.history.proofs.Demand3.{history-followed}
 
@@ -77,11 +77,7 @@ module _ (call : FileCall) where
 
 -- on a buffer that holds n lines
 after-lines : {size : ℕ} {b : List ℕ} {u : ℕ} {ls : List Line} {c f : List ℕ} {a : Answer} {b′ : List ℕ} → Stands size b u ls → FileTurn c f b u a b′
-    → refusalOf c ≡ 0 → (IsHeld ls c → ⊥)
-    → let n = length ls in
-    (96 * n + 112 ≤ size → n < 1000000 → a ≡ filed 0 n (96 * n + 112))
-    × (size < 96 * n + 112 → a ≡ filed 23 0 (96 * n + 16))
-    × (n ≡ 1000000 → a ≡ filed 23 0 (96 * n + 16))
+    → refusalOf c ≡ 0 → (IsHeld ls c → ⊥) → BySpace size (length ls) a
 unfolding answer
 after-lines {size} {ls = ls} {c = c} {f = f} s t e h =
     let n = length ls in
@@ -96,10 +92,7 @@ after-lines {size} {ls = ls} {c = c} {f = f} s t e h =
 
 pub filed-exactly : {b : List ℕ} {cs : List Request} {rs : List Answer} {b″ : List ℕ} {u″ : ℕ} {c f : List ℕ} {a : Answer} {b‴ : List ℕ}
     → History b cs rs b″ u″ → FileTurn c f b″ u″ a b‴ → refusalOf c ≡ 0 → (IsHeld (lines (length b) [] cs) c → ⊥)
-    → let n = length (lines (length b) [] cs) in
-    (96 * n + 112 ≤ length b → n < 1000000 → a ≡ filed 0 n (96 * n + 112))
-    × (length b < 96 * n + 112 → a ≡ filed 23 0 (96 * n + 16))
-    × (n ≡ 1000000 → a ≡ filed 23 0 (96 * n + 16))
+    → BySpace (length b) (length (lines (length b) [] cs)) a
 filed-exactly h t e o = after-lines (history-followed h .stands) t e o
 
 -- ── an empty, and the first filing behind it

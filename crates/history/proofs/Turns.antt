@@ -9,28 +9,28 @@ use borrow.Author.Tests.{ltb-false, leb-false}
 use lib.Dec.{ltb, leb}
 use lib.ListN.{length, getD}
 use Rattle.binary64.specs.Bytes.{splice}
-use Rattle.scenario.specs.Refusal.{Condition, _when_, firstOf}
+use Rattle.scenario.specs.Refusal.{firstOf}
 use Rattle.scenario.specs.Case.{refusalOf}
 use Rattle.scenario.proofs.Refusals.{none-holds}
 use Rattle.emission.specs.Figures.{figuresOf}
 use Rattle.emission.proofs.Demand2.{Call as WorkOut, figure-bounds}
 use Rattle.records.specs.Layout.{Line, noLine, recordOf, trailer, trailerSize, usedLength, mostRecords, recordSize, edition, bytesAt}
-use Rattle.archive.specs.Conditions.{accepted, full}
+use Rattle.archive.specs.Conditions.{accepted}
 use Rattle.records.specs.Lines.{held}
 use Rattle.archive.specs.Answers.{Answer, emptied, shown, ofEmptied, ofFiling, ofHighest, handed}
-use Rattle.history.specs.Ledger.{Request, empty, file, show, worst, judgedEmpty, judgedFile, judgedShow, judgedWorst, answer, after}
+use Rattle.history.specs.Ledger.{Request, empty, file, show, worst, judgedEmpty, fromLines, judgedFile, judgedShow, judgedWorst, answer, after}
 use Rattle.archive.specs.Archive.{emptyRefusals, emptyRefusal, emptying, emptyBytes, fileRefusal, filing, lineFor, fileBytes, showRefusals, showRefusal, showPart, worstRefusals, naming}
 use Rattle.records.specs.Buffer.{written}
 use Rattle.history.proofs.AnswerLaws.{of-emptying, of-filing, of-naming}
 use Rattle.history.proofs.Demand1.{told-is}
 use Rattle.archive.proofs.Cases.{storable-line}
-use Rattle.records.proofs.Holding.{Holds, count-is, sound-is, lines-are, record-is, length-emptied, emptied-holds, length-written, written-holds}
+use Rattle.records.proofs.Holding.{HoldsLines, count-is, sound-is, lines-are, record-is, length-emptied, emptied-holds, length-written, written-holds}
 use Rattle.archive.proofs.Refusals.{full-exactly, orElse, behind-case, both-zero, file-refusal-is}
 use Rattle.history.specs.History.{WorkedOut, EmptyTurn, FileTurn, ShowTurn, WorstTurn, Turn, HeldLine, AllHeld}
 
 -- the buffer b of a size, at the used length u, holds the lines ls, each worked out and within its bounds
 pub record Stands (size : ℕ) (b : List ℕ) (u : ℕ) (ls : List Line) : Type 0 where
-  pub holds : Holds b u ls
+  pub holds : HoldsLines b u ls
   pub size-is : length b ≡ size
   pub held : AllHeld ls
 
@@ -66,16 +66,13 @@ emptied-stands b h = record { holds = emptied-holds b h; size-is = length-emptie
 
 -- ── a filing's refusals, as the ledger judges them: the case's own, then these
 
-abbrev fromLines : ℕ → List Line → List ℕ → List Condition
-fromLines size ls c = (22 when held ls c) ∷ (23 when full size (usedLength recordSize (length ls)) (length ls)) ∷ []
-
 pub judged-file-is : (size : ℕ) (ls : List Line) (c : List ℕ) → firstOf (judgedFile size ls c) ≡ orElse (refusalOf c) (firstOf (fromLines size ls c))
 unfolding judgedFile
 judged-file-is size ls c = behind-case c (fromLines size ls c)
 
 -- ── a call from a buffer b that holds the lines ls at the used length u
 
-module _ {b : List ℕ} {u : ℕ} {ls : List Line} (h : Holds b u ls) (g : AllHeld ls) where
+module _ {b : List ℕ} {u : ℕ} {ls : List Line} (h : HoldsLines b u ls) (g : AllHeld ls) where
   still : Stands (length b) b u ls
   still = record { holds = h; size-is = refl; held = g }
 

@@ -1,14 +1,14 @@
 -- Lists of calls on one buffer, histories among them, and what holds after a history. Paper 01, 'The archive' and 'The ledger behind a history'; demand 3.
 use mathlib.Core.Path.{_≡_}
 use mathlib.Core.List.{List, [], _∷_}
-use Prim.Native.Nat.{ℕ, _<_}
+use Prim.Native.Nat.{ℕ, _+_, _*_, _≤_, _<_}
 use denote.Ref.{now}
 use lib.ListN.{length, getD, take}
 use Rattle.scenario.specs.Case.{refusalOf}
 use Rattle.product.specs.Ratio.{_over_}
 use Rattle.emission.specs.Figures.{exactValues, figuresOf, WithinBounds, margin}
 use Rattle.records.specs.Layout.{Line, archiveOf, usedLength, recordSize, edition}
-use Rattle.archive.specs.Answers.{Answer, emptied, shown, ofEmptied, ofFiling, ofHighest, handed}
+use Rattle.archive.specs.Answers.{Answer, emptied, filed, shown, ofEmptied, ofFiling, ofHighest, handed}
 use Rattle.history.specs.Calls.{WorkOutCall, EmptyCall, FileCall, ShowCall, ShowRefusalCall, WorstCall, SameArguments}
 use Rattle.history.specs.Ledger.{Request, empty, file, show, worst, answers, lines}
 
@@ -98,6 +98,15 @@ pub record After (size : ℕ) (cs : List Request) (rs : List Answer) (b″ : Lis
   pub used-length : u″ ≡ usedLength recordSize (length (lines size [] cs))
   pub buffer : length b″ ≡ size
   pub held : AllHeld (lines size [] cs)
+
+-- ── free space in plain numbers
+
+-- the answer to a filing of a case that is within the ranges and not held, on a buffer of some size that has n lines
+abbrev pub BySpace : ℕ → ℕ → Answer → Type 0
+BySpace size n a =
+    (96 * n + 112 ≤ size → n < 1000000 → a ≡ filed 0 n (96 * n + 112))
+    × (size < 96 * n + 112 → a ≡ filed 23 0 (96 * n + 16))
+    × (n ≡ 1000000 → a ≡ filed 23 0 (96 * n + 16))
 
 -- ── that there are such lists
 

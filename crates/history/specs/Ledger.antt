@@ -23,9 +23,11 @@ pub data Request : Type 0 where
 unfoldable pub judgedEmpty : ℕ → List Condition
 judgedEmpty size = (23 when ltb size trailerSize) ∷ []
 
+abbrev pub fromLines : ℕ → List Line → List ℕ → List Condition
+fromLines size ls c = (22 when held ls c) ∷ (23 when full size (usedLength recordSize (length ls)) (length ls)) ∷ []
+
 unfoldable pub judgedFile : ℕ → List Line → List ℕ → List Condition
-judgedFile size ls c =
-    refusals c ++ ((22 when held ls c) ∷ (23 when full size (usedLength recordSize (length ls)) (length ls)) ∷ [])
+judgedFile size ls c = refusals c ++ fromLines size ls c
 
 unfoldable pub judgedShow : List Line → ℕ → List Condition
 judgedShow ls k = (24 when leb (length ls) k) ∷ []

@@ -1,4 +1,4 @@
--- A buffer that holds the archive of some lines up to a used length: `Holds`.
+-- A buffer that holds the archive of some lines up to a used length: `HoldsLines`.
 -- What its trailer and records say: `count-is`, `sound-is`, `lines-are`, `record-is`. After empty: `emptied-holds`; after an accepted filing: `written-holds`.
 -- Sizes: `length-emptied`, `length-written`.
 use mathlib.Core.Path.{_≡_, refl, sym, ap, _∙_}
@@ -18,7 +18,7 @@ use Rattle.records.proofs.RecordLaws.{AllStorable, Storable, storable-s
 use Rattle.records.proofs.Trailer.{not-broken}
 use Rattle.records.proofs.Writing.{length-trailer}
 
-pub record Holds (b : List ℕ) (u : ℕ) (ls : List Line) : Type 0 where
+pub record HoldsLines (b : List ℕ) (u : ℕ) (ls : List Line) : Type 0 where
   pub storable : AllStorable ls
   pub few : length ls ≤ mostRecords
   pub length-is : u ≡ usedLength recordSize (length ls)
@@ -31,7 +31,7 @@ unfolding numberAt
 number-behind p q at k x h f =
     rw (drop-at p (bytesOf k x ++ q) at h, take-at (bytesOf k x) q k (length-bytesOf k x), numberOf-bytesOf) (mod-eq-of-lt f)
 
-module _ {b : List ℕ} {u : ℕ} {ls : List Line} (s : Holds b u ls) where
+module _ {b : List ℕ} {u : ℕ} {ls : List Line} (s : HoldsLines b u ls) where
   abbrev n : ℕ
   n = length ls
 
@@ -94,7 +94,7 @@ module _ {b : List ℕ} {u : ℕ} {ls : List Line} (s : Holds b u ls) where
 pub length-emptied : (b : List ℕ) → trailerSize ≤ length b → length (splice b 0 (trailer recordSize edition 0)) ≡ length b
 length-emptied b h = length-splice b 0 (trailer recordSize edition 0) (omega (arith, length-trailer recordSize edition 0))
 
-pub emptied-holds : (b : List ℕ) → trailerSize ≤ length b → Holds (splice b 0 (trailer recordSize edition 0)) trailerSize []
+pub emptied-holds : (b : List ℕ) → trailerSize ≤ length b → HoldsLines (splice b 0 (trailer recordSize edition 0)) trailerSize []
 unfolding archiveOf records splice
 emptied-holds b h = record {
   storable = tt;
@@ -106,7 +106,7 @@ emptied-holds b h = record {
 
 -- ── after a filing
 
-module _ {b : List ℕ} {u : ℕ} {ls : List Line} (s : Holds b u ls) (l : Line) (g : Storable l) (room : u + recordSize ≤ length b) (fewer : length ls < mostRecords) where
+module _ {b : List ℕ} {u : ℕ} {ls : List Line} (s : HoldsLines b u ls) (l : Line) (g : Storable l) (room : u + recordSize ≤ length b) (fewer : length ls < mostRecords) where
   abbrev T : List ℕ
   T = trailer recordSize edition (length ls + 1)
 
@@ -135,7 +135,7 @@ module _ {b : List ℕ} {u : ℕ} {ls : List Line} (s : Holds b u ls) (l : Line)
       length-append (records (ls ++ (l ∷ []))) (trailer recordSize edition (length (ls ++ (l ∷ []))))
       ∙ omega (arith, length-records (ls ++ (l ∷ [])) (storable-snoc ls l (s .storable) g), length-trailer recordSize edition (length (ls ++ (l ∷ []))), one-more)
 
-  pub written-holds : Holds (written b (length ls) l) (usedLength recordSize (length ls + 1)) (ls ++ (l ∷ []))
+  pub written-holds : HoldsLines (written b (length ls) l) (usedLength recordSize (length ls + 1)) (ls ++ (l ∷ []))
   written-holds = record {
     storable = storable-snoc ls l (s .storable) g;
     few = omega (arith, one-more);
