@@ -5,13 +5,11 @@
 --   milligrams-whole, milligrams-more                   by quotient and remainder
 use mathlib.Core.Path.{_≡_, refl, sym, ap, _∙_}
 use mathlib.Core.List.{List, [], _∷_, _++_}
-use Prim.Native.Nat.{ℕ, suc, _+_, _*_, _/_, _%_, _≤_, _<_}
-use native.Mathlib.Nat.{div-add-mod', mod-lt}
+use Prim.Native.Nat.{ℕ, _+_, _/_, _%_, _≤_, _<_}
 use native.Mathlib.Numerals.{add-one}
 use native.Mathlib.Omega.{arith}
 use lib.ListN.{length, getD, set, take, drop, drop-of-length-le, length-append}
 use lib.Seq.{drop-cons, getD-take}
-use Rattle.natural.specs.Ceiling.{ceiling}
 use Rattle.natural.proofs.Ceiling.{ceiling-of}
 use Rattle.binary64.specs.Bytes.{numberOf, numberAt, splice}
 use Rattle.binary64.proofs.Numbers.{numberAt-one}

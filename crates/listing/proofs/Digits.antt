@@ -6,14 +6,14 @@
 --   decimal-some, decimal-at-most                bounds on its length
 use mathlib.Core.Path.{_≡_, refl, sym, ap, _∙_, subst}
 use mathlib.Core.Bool.{Bool, true, false, cond}
-use mathlib.Core.List.{List, [], _∷_, _++_, map, map-append}
+use mathlib.Core.List.{List, [], _∷_, _++_, map-append}
 use Prim.Native.Nat.{ℕ, zero, suc, _+_, _*_, _-_, _/_, _%_, _^_, _≤_, _<_}
 use native.Mathlib.Nat.{pow-suc}
 use native.Mathlib.Omega.{arith}
 use borrow.Author.Tests.{lt-ltb, le-ltb, ltb-true, ltb-false}
 use lib.Dec.{ltb}
 use lib.ListN.{length, getD, take, length-append, length-map, List·getD-append}
-use lib.Seq.{take-suc, take-length, getD-take, getD-append-seam, length-take-le}
+use lib.Seq.{take-suc, take-length, getD-take, length-take-le}
 use Rattle.listing.specs.Decimal.{valueAfter, valueOf, IsDecimal, digitsWithin, digits, character, decimal}
 
 -- ── values

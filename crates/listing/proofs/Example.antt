@@ -4,7 +4,6 @@ use mathlib.Core.List.{List, [], _∷_}
 use Prim.Native.Nat.{ℕ}
 use Rattle.natural.specs.Ceiling.{ceiling}
 use Rattle.binary64.specs.Bytes.{bytesOf, numberOf, numberAt}
-use Rattle.scenario.specs.Case.{kindOf, rowOf, routeOf, dossierOf}
 use Rattle.scenario.specs.Builder.{caseBytes, hundred, unit}
 use Rattle.records.specs.Layout.{figureBytes, recordOf, records, trailer, archiveOf, figuresIn, lineOf, firstLines, recordSize, edition}
 use Rattle.records.specs.Buffer.{broken}

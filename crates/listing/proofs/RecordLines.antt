@@ -4,14 +4,13 @@
 --   linesFrom, lines-start, lines-step, length-lines-step, lines-end   the lines from record k on
 --   line-at-most, lines-at-most                                        bounds on lengths, of records that are bytes
 -- What a line's columns are is in `Columns`.
-use mathlib.Core.Path.{_≡_, refl, sym, ap, _∙_, subst}
+use mathlib.Core.Path.{_≡_, ap, _∙_}
 use mathlib.Core.List.{List, [], _∷_, _++_}
 use Prim.Native.Nat.{ℕ, zero, suc, _+_, _*_, _-_, _^_, _≤_, _<_}
-use native.Mathlib.Nat.{sub-zero, mul-suc}
+use native.Mathlib.Nat.{sub-zero}
 use native.Mathlib.Omega.{arith}
 use lib.ListN.{length, getD, take, drop, length-append, length-drop}
 use lib.Seq.{drop-drop, getD-drop, length-take-le}
-use Rattle.natural.specs.Ceiling.{ceiling}
 use Rattle.natural.proofs.Ceiling.{ceiling-at-most}
 use Rattle.binary64.specs.Bytes.{numberAt, splice}
 use Rattle.binary64.proofs.Numbers.{numberAt-small}

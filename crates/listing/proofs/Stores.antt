@@ -2,10 +2,10 @@
 --   store-last, store-one         the last of some bytes, stored before the others; one byte
 --   digit-stored, first-stored    a number, its last digit first
 -- Splices behind one another are in `Splice` of binary64.
-use mathlib.Core.Path.{_≡_, refl, sym, ap, _∙_}
+use mathlib.Core.Path.{_≡_, sym, ap, _∙_}
 use mathlib.Core.List.{List, [], _∷_, _++_, append-assoc}
 use Prim.Native.Nat.{ℕ, suc, _+_, _/_, _%_, _≤_, _<_}
-use native.Mathlib.Nat.{add-zero, add-suc}
+use native.Mathlib.Nat.{add-zero}
 use native.Mathlib.Omega.{arith}
 use lib.ListN.{length, take, drop, set, length-append, length-set}
 use lib.Seq.{drop-cons, getD-set-same, drop-set-lt, take-set-le}

@@ -3,23 +3,22 @@
 --   listing-refused, listing-accepted, length-accepted    the listing, by cases
 --   listing-at-most                                       a bound on its length
 --   listing-written                                       the header, and the lines behind it
---   listed-written, listed-needs, written-within          what `print` answers and leaves
+--   listed-written, listed-needs                          what `print` answers and leaves
 --   whole-written, whole-never-needs                      the same, where the buffer holds every listing
 use mathlib.Core.Path.{_≡_, refl, sym, ap, _∙_}
-use mathlib.Core.Bool.{Bool, true, false, cond}
+use mathlib.Core.Bool.{Bool, true, false}
 use mathlib.Core.List.{List, _++_}
 use Prim.Native.Nat.{ℕ, _+_, _*_, _≤_, _<_}
 use native.Mathlib.Omega.{arith}
-use borrow.Author.Tests.{ltb-false, leb-true, le-leb, lt-leb}
-use lib.Dec.{leb}
+use borrow.Author.Tests.{ltb-false, le-leb, lt-leb}
 use lib.ListN.{length, take, length-append}
 use Rattle.binary64.specs.Bytes.{splice}
 use Rattle.binary64.proofs.Splice.{length-splice, splice-join, splice-read}
 use Rattle.scenario.proofs.Bools.{neither}
 use Rattle.records.specs.Layout.{firstLines, recordSize}
-use Rattle.records.specs.Buffer.{countAt, linesIn}
+use Rattle.records.specs.Buffer.{countAt}
 use Rattle.records.proofs.Trailer.{sound-facts}
-use Rattle.listing.specs.Listing.{codes, header, refusal, linesText, mostOutput, refused, listingOf, holds, listed, listedBytes}
+use Rattle.listing.specs.Listing.{codes, header, refusal, linesText, mostOutput, refused, listingOf, listed, listedBytes}
 use Rattle.listing.specs.declared.Listed.{Listed}
 use Rattle.listing.specs.declared.Listed.the-variants.{Written, Needs}
 use Rattle.listing.proofs.RecordLines.{AreBytes, lines-at-most}
@@ -90,21 +89,6 @@ listed-written b o e h w = let t = le-leb (length (listingOf b)) (length o) (rw 
 pub listed-needs : (b o : List ℕ) {n : ℕ} → n ≡ length (listingOf b) → length o < n → (Needs n ≡ listed b (length o)) × (o ≡ listedBytes b o)
 unfolding listed listedBytes
 listed-needs b o e h = let t = lt-leb (length (listingOf b)) (length o) (rw e at h) in rw t (ap Needs e, refl)
-
-within-by : (b : List ℕ) (size n : ℕ) (t : Bool) → holds size b ≡ t → Written n ≡ listed b size → n ≤ size
-unfolding listed
-within-by b size n true e f =
-    let g : Written n ≡ Written (length (listingOf b)) = rw e at f in
-    let m : n ≡ length (listingOf b) = cc in
-    omega (arith, leb-true (length (listingOf b)) size e)
-within-by b size n false e f =
-    let g : Written n ≡ Needs (length (listingOf b)) = rw e at f in
-    let z : _≡_ {A = ℕ} 0 1 = cc in
-    absurd (omega arith)
-
--- what is written lies within the buffer
-pub written-within : (b : List ℕ) (size : ℕ) {r : Listed} {n : ℕ} → r ≡ listed b size → r ≡ Written n → n ≤ size
-written-within b size {r} {n} e f = within-by b size n (holds size b) refl (sym f ∙ e)
 
 -- ── in a buffer that holds every listing
 

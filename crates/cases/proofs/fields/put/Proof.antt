@@ -1,9 +1,9 @@
 -- The bytes stay as many as they were.
-use mathlib.Core.Path.{_≡_, refl, _∙_}
+use mathlib.Core.Path.{_≡_, refl}
 use Prim.Native.Nat.{_-_, _≤_}
 use native.Mathlib.Omega.{arith}
 use borrow.Author.Needs.{needs}
-use lib.ListN.{length, length-set}
+use lib.ListN.{length}
 use Rattle.cases.proofs.fields.put.Statement.{statement}
 use Rattle.cases.proofs.fields.put.Tie as tie
 

@@ -1,7 +1,6 @@
 -- The bytes stay as many as they were.
 use mathlib.Core.Path.{_≡_}
 use Prim.Native.Nat.{_-_, _≤_}
-use native.Mathlib.Omega.{arith}
 use borrow.Author.Needs.{needs}
 use lib.ListN.{length}
 use Rattle.cases.proofs.fields.set_fields.Statement.{statement}

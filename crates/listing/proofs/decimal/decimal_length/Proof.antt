@@ -1,6 +1,6 @@
 -- The invariant: the divisions made and the digits that are left are the digits of x.
 use mathlib.Core.Path.{_≡_, ap}
-use Prim.Native.Nat.{_+_, _≤_}
+use Prim.Native.Nat.{_+_}
 use native.Mathlib.Omega.{arith}
 use lib.ListN.{length}
 use Rattle.listing.specs.Decimal.{decimal}

@@ -1,9 +1,7 @@
 -- The invariant: the lines from record k on, over the bytes as they are, make the bytes that are asked.
 use mathlib.Core.Path.{_≡_, refl, sym, ap, _∙_}
-use mathlib.Core.List.{List}
-use Prim.Native.Nat.{ℕ, _+_, _-_, _≤_}
+use Prim.Native.Nat.{_+_, _-_, _≤_}
 use native.Mathlib.Omega.{arith}
-use borrow.Author.Needs.{needs}
 use lib.ListN.{length}
 use Rattle.binary64.specs.Bytes.{splice}
 use Rattle.binary64.proofs.Splice.{splice-nil, splice-join}
