@@ -2,33 +2,16 @@
 -- is at most 1,000,000: `trailer-there`. That the archive of some lines is not refused is `sound-is` in Holding.
 use mathlib.Core.Path.{_≡_, sym, ap, _∙_}
 use mathlib.Core.Bool.{false}
-use mathlib.Core.List.{List, [], _∷_, _++_, append-assoc}
-use Prim.Native.Nat.{ℕ, zero, suc, _+_, _-_, _*_, _≤_, _<_}
+use mathlib.Core.List.{List, _++_, append-assoc}
+use Prim.Native.Nat.{ℕ, _+_, _-_, _*_, _≤_, _<_}
 use native.Mathlib.Omega.{arith}
-use lib.ListN.{length, getD, take, drop, length-drop}
-use lib.Seq.{take-add, length-take-le, drop-drop, getD-drop}
-use Rattle.binary64.specs.Bytes.{bytesOf, numberOf, numberAt}
-use Rattle.binary64.proofs.Numbers.{bytesOf-numberOf}
+use lib.ListN.{length, getD, take, drop}
+use lib.Seq.{take-add, drop-drop}
+use Rattle.binary64.specs.Bytes.{bytesOf}
+use Rattle.binary64.proofs.Numbers.{bytesOf-numberAt}
 use Rattle.records.specs.Layout.{bytesAt, trailer, trailerSize, usedLength, mostRecords, recordSize, edition}
 use Rattle.records.specs.Buffer.{distanceAt, countAt, editionAt, broken}
 use Rattle.records.proofs.Trailer.{sound-facts}
-
-abbrev Bytes : List ℕ → Type 0
-Bytes l = (i : ℕ) → getD l i 0 < 256
-
-bytes-take : (n : ℕ) (l : List ℕ) → Bytes l → Bytes (take n l)
-bytes-take zero l h i = omega arith
-bytes-take (suc n) [] h i = omega arith
-bytes-take (suc n) (x ∷ l) h zero = h zero
-bytes-take (suc n) (x ∷ l) h (suc i) = bytes-take n l (λ j. h (suc j)) i
-
--- the bytes of the number in w places are those places
-number-bytes : (b : List ℕ) (at w : ℕ) → Bytes b → at + w ≤ length b → bytesOf w (numberAt b at w) ≡ bytesAt b at w
-unfolding numberAt
-number-bytes b at w h k =
-    let l = take w (drop at b) in
-    let n : length l ≡ w = length-take-le w (drop at b) (rw length-drop (omega arith)) in
-    ap (λ (m : ℕ). bytesOf m (numberOf l)) (sym n) ∙ bytesOf-numberOf l (bytes-take w (drop at b) (λ i. rw getD-drop (h (at + i))))
 
 part-add : (b : List ℕ) (at n m : ℕ) → bytesAt b at (n + m) ≡ bytesAt b at n ++ bytesAt b (at + n) m
 part-add b at n m = take-add n m (drop at b) ∙ ap (λ (l : List ℕ). take n (drop at b) ++ take m l) (drop-drop n at b)
@@ -42,7 +25,7 @@ trailer-there b u h e =
     let l = s .at-least in
     let p : u - 16 + 8 ≡ u - 8 = omega arith in
     let q : u - 8 + 4 ≡ u - 4 = omega arith in
-    let d : bytesOf 8 (96 * countAt b u) ≡ bytesAt b (u - 16) 8 = ap (bytesOf 8) (sym (s .distance-is)) ∙ number-bytes b (u - 16) 8 h (omega arith) in
-    let n : bytesOf 4 (countAt b u) ≡ bytesAt b (u - 8) 4 = number-bytes b (u - 8) 4 h (omega arith) in
-    let f : bytesOf 4 1 ≡ bytesAt b (u - 4) 4 = ap (bytesOf 4) (sym (s .edition-is)) ∙ number-bytes b (u - 4) 4 h (omega arith) in
+    let d : bytesOf 8 (96 * countAt b u) ≡ bytesAt b (u - 16) 8 = ap (bytesOf 8) (sym (s .distance-is)) ∙ bytesOf-numberAt b (u - 16) 8 h (omega arith) in
+    let n : bytesOf 4 (countAt b u) ≡ bytesAt b (u - 8) 4 = bytesOf-numberAt b (u - 8) 4 h (omega arith) in
+    let f : bytesOf 4 1 ≡ bytesAt b (u - 4) 4 = ap (bytesOf 4) (sym (s .edition-is)) ∙ bytesOf-numberAt b (u - 4) 4 h (omega arith) in
     (s .few, s .length-is, s .inside, part-add b (u - 16) 8 8 ∙ rw (p, part-add b (u - 8) 4 4, q, d, n, f) (sym (append-assoc (bytesAt b (u - 16) 8) (bytesAt b (u - 8) 4) (bytesAt b (u - 4) 4))))

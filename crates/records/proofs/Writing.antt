@@ -1,5 +1,5 @@
 -- Laws of what is written to the archive: one write behind another, up to a record with its trailer.
--- A copy, byte by byte: `copy-step`, `copy-done`. Writes: `behind` (one right behind another), `figures-written`, `trailer-written`, `line-written`.
+-- Writes: `behind` (one right behind another), `figures-written`, `trailer-written`, `line-written`.
 -- An array of four: `four-of`. Lengths: `length-figureBytes`, `length-trailer`.
 -- What is read back is in `RecordLaws` and `Trailer`.
 use mathlib.Core.Path.{_≡_, refl, sym, ap, _∙_}
@@ -7,24 +7,12 @@ use mathlib.Core.List.{List, [], _∷_, _++_, append-assoc, append-nil}
 use Prim.Native.Nat.{ℕ, suc, _+_, _*_, _≤_, _<_}
 use native.Mathlib.Nat.{mul-suc}
 use native.Mathlib.Omega.{arith}
-use native.Mathlib.Numerals.{add-one}
-use lib.ListN.{length, getD, set, drop, length-append, drop-of-length-le}
-use lib.Seq.{drop-cons, sets, sets-eq}
+use lib.ListN.{length, getD, length-append}
 use Rattle.binary64.specs.Bytes.{bytesOf, splice}
 use Rattle.binary64.proofs.Numbers.{length-bytesOf}
 use Rattle.binary64.proofs.Splice.{splice-join}
 use Rattle.records.specs.Layout.{figureBytes, recordOf, trailer, recordSize, edition}
 use Rattle.records.specs.Buffer.{written}
-
--- ── a copy: the stores from i on are those that are left
-
-pub copy-step : (b s : List ℕ) (at i : ℕ) → i < length s
-    → sets b (at + i) (drop i s) ≡ sets (set b (at + i) (getD s i 0)) (at + (i + 1)) (drop (i + 1) s)
-copy-step b s at i h = let p : at + (i + 1) ≡ suc (at + i) = omega arith in rw (p, add-one, drop-cons s i 0 h)
-
-pub copy-done : (b b₀ s : List ℕ) (at i : ℕ) → length s ≤ i → at + length s ≤ length b₀ → sets b (at + i) (drop i s) ≡ sets b₀ at s → b ≡ splice b₀ at s
-unfolding splice
-copy-done b b₀ s at i h l e = (rw (drop-of-length-le s h) at e) ∙ sets-eq s b₀ at l
 
 -- ── an array of four, by its elements
 
