@@ -1,7 +1,7 @@
 // Little-endian numbers in a slice of bytes: read, and written in their place. By halves, so that the compiler makes
 // one load or one store of each. Bytes as they are, copied to their place by numbers of 8.
 ghost use mathlib.Core.Path.{_≡_};
-ghost use Prim.Native.Nat.{_+_, _≤_};
+ghost use Prim.Native.Nat.{_+_, _≤_, _<_};
 ghost use lib.ListN.{length, take};
 ghost use Rattle.binary64.specs.Bytes.{bytesOf, numberAt, splice};
 
@@ -64,10 +64,10 @@ pub fn put_u64(b: &mut [u8], at: usize, x: u64)
     put_u32(b, at + 4, (x / 4294967296) as u32);
 }
 
-// Writes the bytes of s from `at` on, by numbers of 8 bytes; returns how many it wrote, all but the last few.
+// Writes the bytes of s from `at` on, by numbers of 8 bytes; returns how many it wrote, all but 7 at the most.
 fn put_words(b: &mut [u8], at: usize, s: &[u8]) -> usize
     requires { ⌜ at + length (now s) ≤ length (now b) ⌝ }
-    ensures { λ r. ⌜ (now (b .exit) ≡ splice (now (b .entry)) at (take r (now (s .entry)))) × (r ≤ length (now (s .entry))) ⌝ }
+    ensures { λ r. ⌜ (now (b .exit) ≡ splice (now (b .entry)) at (take r (now (s .entry)))) × (r ≤ length (now (s .entry))) × (length (now (s .entry)) < r + 8) ⌝ }
 {
     let mut i = 0;
     while 8 <= s.len() - i {

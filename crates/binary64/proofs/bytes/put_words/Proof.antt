@@ -20,4 +20,4 @@ put-words-spec =
     (λ c. omega arith) (λ c. omega arith) (λ c κs. omega arith) (λ c κs. omega arith) (λ c. omega arith) (λ c. omega arith)
     (λ c. let p = c .before .before in copied-more 8 (p .before .before .before .before .loop .inv) (omega arith) (p .before .u64-at .ensures) (p .put-u64 .ensures))
     (λ c. c .before .loop .inv .long)
-    (λ c. (c .before .loop .inv .same, c .before .loop .inv .within)))
+    (λ c. (c .before .loop .inv .same, c .before .loop .inv .within, omega arith)))
