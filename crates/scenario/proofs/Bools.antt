@@ -1,4 +1,4 @@
--- Laws of `&&` and `||`: `both`, `neither`, `and-false`.
+-- Laws of `&&` and `||`: `both`, `neither`.
 use mathlib.Core.Path.{_≡_, refl}
 use mathlib.Core.Bool.{Bool, true, false, _&&_, _||_}
 use Prim.Native.Nat.{ℕ}
@@ -11,7 +11,3 @@ both false q e = let z : _≡_ {A = ℕ} 0 1 = cc in absurd (omega arith)
 pub neither : (p q : Bool) → (p || q) ≡ false → (p ≡ false) × (q ≡ false)
 neither true q e = let z : _≡_ {A = ℕ} 0 1 = cc in absurd (omega arith)
 neither false q e = (refl, e)
-
-pub and-false : (p : Bool) → (p && false) ≡ false
-and-false true = refl
-and-false false = refl

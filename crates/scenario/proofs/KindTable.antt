@@ -3,13 +3,13 @@
 -- Of ranges: `in-range`, `only-zero`.
 -- Laws of limits are in `Limits`.
 use mathlib.Core.Path.{_≡_, refl}
-use mathlib.Core.Bool.{true, false}
+use mathlib.Core.Bool.{true}
 use Prim.Native.Nat.{ℕ, zero, suc, _≤_}
 use native.Mathlib.Omega.{arith}
 use lib.Dec.{leb}
-use borrow.Author.Tests.{lt-leb, leb-true}
+use borrow.Author.Tests.{leb-true}
 use Rattle.scenario.specs.Case.{Range, within, _to_, kinds, noKind, kindAt}
-use Rattle.scenario.proofs.Bools.{both, and-false}
+use Rattle.scenario.proofs.Bools.{both}
 
 -- ── ranges
 
@@ -27,9 +27,9 @@ none-allowed n w = let r = in-range (1 to 0) n w in absurd (omega arith)
 
 -- ── kinds
 
-pub by-kind : (P : ℕ → Type 0) → P 1 → P 2 → P 3 → P 4 → P 5 → P 6 → P 7 → ((k : ℕ) → within (1 to 7) k ≡ false → kindAt k ≡ noKind → P k) → (k : ℕ) → P k
+pub by-kind : (P : ℕ → Type 0) → P 1 → P 2 → P 3 → P 4 → P 5 → P 6 → P 7 → ((k : ℕ) → kindAt k ≡ noKind → P k) → (k : ℕ) → P k
 unfolding kindAt
-by-kind P a b c d e f g h zero = h 0 refl refl
+by-kind P a b c d e f g h zero = h 0 refl
 by-kind P a b c d e f g h (suc zero) = a
 by-kind P a b c d e f g h (suc (suc zero)) = b
 by-kind P a b c d e f g h (suc (suc (suc zero))) = c
@@ -37,9 +37,7 @@ by-kind P a b c d e f g h (suc (suc (suc (suc zero)))) = d
 by-kind P a b c d e f g h (suc (suc (suc (suc (suc zero))))) = e
 by-kind P a b c d e f g h (suc (suc (suc (suc (suc (suc zero)))))) = f
 by-kind P a b c d e f g h (suc (suc (suc (suc (suc (suc (suc zero))))))) = g
-by-kind P a b c d e f g h (suc (suc (suc (suc (suc (suc (suc (suc k)))))))) =
-    let n = suc (suc (suc (suc (suc (suc (suc (suc k))))))) in
-    h n (rw (lt-leb n 7 (omega arith)) (and-false (leb 1 n))) refl
+by-kind P a b c d e f g h (suc (suc (suc (suc (suc (suc (suc (suc k)))))))) = h (suc (suc (suc (suc (suc (suc (suc (suc k)))))))) refl
 
 -- what a match on the seven kinds leaves to its last arm
 abbrev OtherThan7 : ℕ → Type 0
@@ -55,13 +53,13 @@ no-kind =
     (λ o. absurd (o .0 .0 .1 refl))
     (λ o. absurd (o .0 .1 refl))
     (λ o. absurd (o .1 refl))
-    (λ k w e o. e)
+    (λ k e o. e)
 
 pub paper-rows-count : (k t : ℕ) → within (kindAt k .rowCount) t ≡ true → t ≡ 0
 unfolding kindAt kinds
 paper-rows-count k t =
     let z : within (0 to 0) t ≡ true → t ≡ 0 = only-zero t in
-    by-kind (λ k. within (kindAt k .rowCount) t ≡ true → t ≡ 0) z z z z z z z (λ k o e w. none-allowed t (rw e at w)) k
+    by-kind (λ k. within (kindAt k .rowCount) t ≡ true → t ≡ 0) z z z z z z z (λ k e w. none-allowed t (rw e at w)) k
 
 pub city-rows : (k row : ℕ) → k ≤ 3 → within (kindAt k .rows) row ≡ true → row ≤ 7
 unfolding kindAt kinds
@@ -69,7 +67,7 @@ city-rows k row =
     by-kind (λ k. k ≤ 3 → within (kindAt k .rows) row ≡ true → row ≤ 7)
     (λ h w. in-range (0 to 7) row w .1) (λ h w. in-range (0 to 7) row w .1) (λ h w. in-range (0 to 7) row w .1)
     (λ h w. absurd (omega arith)) (λ h w. absurd (omega arith)) (λ h w. absurd (omega arith)) (λ h w. absurd (omega arith))
-    (λ k o e h w. none-allowed row (rw e at w))
+    (λ k e h w. none-allowed row (rw e at w))
     k
 
 pub city-life : (k t : ℕ) → k ≤ 2 → within (kindAt k .ownCount) t ≡ true → (31 ≤ t) × (t ≤ 36500)
@@ -78,7 +76,7 @@ city-life k t =
     by-kind (λ k. k ≤ 2 → within (kindAt k .ownCount) t ≡ true → (31 ≤ t) × (t ≤ 36500))
     (λ h w. in-range (31 to 36500) t w) (λ h w. in-range (31 to 36500) t w)
     (λ h w. absurd (omega arith)) (λ h w. absurd (omega arith)) (λ h w. absurd (omega arith)) (λ h w. absurd (omega arith)) (λ h w. absurd (omega arith))
-    (λ k o e h w. none-allowed t (rw e at w))
+    (λ k e h w. none-allowed t (rw e at w))
     k
 
 pub other-users : (k user : ℕ) → (k ≡ 3 → ⊥) → within (kindAt k .users) user ≡ true → user ≡ 0
@@ -87,5 +85,5 @@ other-users k user =
     let z : within (0 to 0) user ≡ true → user ≡ 0 = only-zero user in
     by-kind (λ k. (k ≡ 3 → ⊥) → within (kindAt k .users) user ≡ true → user ≡ 0)
     (λ h. z) (λ h. z) (λ h w. absurd (h refl)) (λ h. z) (λ h. z) (λ h. z) (λ h. z)
-    (λ k o e h w. none-allowed user (rw e at w))
+    (λ k e h w. none-allowed user (rw e at w))
     k
