@@ -13,7 +13,7 @@ use Rattle.scenario.specs.Refusal.{firstOf}
 use Rattle.scenario.specs.Case.{refusalOf}
 use Rattle.scenario.proofs.Refusals.{none-holds}
 use Rattle.emission.specs.Figures.{figuresOf}
-use Rattle.emission.proofs.Demand2.{Call as WorkOut, figure-bounds}
+use Rattle.emission.proofs.Demand2.{figure-bounds}
 use Rattle.records.specs.Layout.{Line, noLine, recordOf, trailer, trailerSize, usedLength, mostRecords, recordSize, edition, bytesAt}
 use Rattle.archive.specs.Conditions.{accepted}
 use Rattle.records.specs.Lines.{held}
@@ -50,8 +50,7 @@ worked-figures w = w .gave ∙ w .call .kept .1 ∙ ap figuresOf (w .on)
 held-line : (c f : List ℕ) → refusalOf c ≡ 0 → WorkedOut c f → HeldLine (record { case = c; figures = f })
 held-line c f e w =
     let k = w .call in
-    let o : WorkOut = record { lifetimes = k .κs; args = k .args; result = k .result; ends = k .ends; kept = k .kept } in
-    record { within-ranges = e; worked = w; bounds = λ i h. rw (← w .on, w .gave) (figure-bounds o (k .kept .0 ∙ ap refusalOf (w .on) ∙ e) i h) }
+    record { within-ranges = e; worked = w; bounds = λ i h. rw (← w .on, w .gave) (figure-bounds k (k .kept .0 ∙ ap refusalOf (w .on) ∙ e) i h) }
 
 -- ── empty, on any buffer
 
