@@ -7,6 +7,8 @@ ghost use Rattle.listing.specs.Listing.{listingOf, mostOutput};
 use libc::STDIN_FILENO;
 use libc::STDOUT_FILENO;
 use listing::Listed;
+use listing::MOST_INPUT;
+use listing::MOST_OUTPUT;
 
 // The length of the listing, which is put at the start of out. A buffer of this size holds every listing.
 fn listing_into(out: &mut [u8], input: &[u8]) -> usize
@@ -21,9 +23,9 @@ fn listing_into(out: &mut [u8], input: &[u8]) -> usize
 
 // One byte more is read than an archive may have, so that longer input is seen to be longer.
 fn main() {
-    let mut input = [0u8; 65537];
+    let mut input = [0u8; MOST_INPUT + 1];
     let n = io::read_full(STDIN_FILENO, &mut input);
-    let mut out = [0u8; 74384];
+    let mut out = [0u8; MOST_OUTPUT];
     let written = listing_into(&mut out, &input[..n]);
     io::write_all(STDOUT_FILENO, &out[..written]);
 }
