@@ -73,13 +73,19 @@ unfolding lineAt lineOf
 case-part b k i n h =
     part-take (take recordSize (drop (recordSize * k) b)) i n 64 h ∙ part-take (drop (recordSize * k) b) i n recordSize (omega arith) ∙ part-drop b i n (recordSize * k)
 
+both-ways : (a b : Bool) → (a && b) ≡ (b && a)
+both-ways true true = refl
+both-ways true false = refl
+both-ways false true = refl
+both-ways false false = refl
+
 -- of two numbers read from record k and two of the case
 pub same-numbers : (b c : List ℕ) (k : ℕ) {x y h d : ℕ} → Bytes b → Bytes c → recordSize * k + recordSize ≤ length b → length c ≡ 64
     → x ≡ numberAt b (recordSize * k) 4 → h ≡ numberAt c 0 4 → y ≡ numberAt b (recordSize * k + 8) 8 → d ≡ numberAt c 8 8
-    → (eqb x h && eqb y d) ≡ sameFiling (lineAt b k .case) c
+    → (eqb y d && eqb x h) ≡ sameFiling (lineAt b k .case) c
 unfolding sameFiling
-same-numbers b c k bb bc hb hc x h y d =
-    rw (case-part b k 0 4 (omega arith), case-part b k 8 8 (omega arith), add-zero, x, h, y, d, same-part b c (recordSize * k) 0 4 bb bc (omega arith) (omega arith), same-part b c (recordSize * k + 8) 8 8 bb bc (omega arith) (omega arith))
+same-numbers b c k {x = x₀} {y = y₀} {h = h₀} {d = d₀} bb bc hb hc x h y d =
+    both-ways (eqb y₀ d₀) (eqb x₀ h₀) ∙ rw (case-part b k 0 4 (omega arith), case-part b k 8 8 (omega arith), add-zero, x, h, y, d, same-part b c (recordSize * k) 0 4 bb bc (omega arith) (omega arith), same-part b c (recordSize * k + 8) 8 8 bb bc (omega arith) (omega arith))
 
 pub held-step : (b c : List ℕ) (n k : ℕ) → k < n → held (from b n k) c ≡ (sameFiling (lineAt b k .case) c || held (from b n (k + 1)) c)
 unfolding held

@@ -8,7 +8,7 @@ use crate::RECORD_SIZE;
 use binary64::bytes::u32_at;
 use binary64::bytes::u64_at;
 
-// Whether one of n records is the same filing as the case.
+// Whether one of n records is the same filing as the case. Dossiers differ sooner than heads, so they are compared first.
 pub fn is_held(archive: &[u8], n: usize, case: &[u8]) -> bool
     requires { ⌜ (recordSize * n ≤ length (now archive)) × (length (now case) ≡ 64) ⌝ }
     ensures { λ r. ⌜ r ≡ held (firstLines recordSize n (now (archive .entry))) (now (case .entry)) ⌝ }
@@ -18,7 +18,7 @@ pub fn is_held(archive: &[u8], n: usize, case: &[u8]) -> bool
     let mut k: usize = 0;
     while k < n {
         let at = RECORD_SIZE * k;
-        if (u32_at(archive, at) == head) & (u64_at(archive, at + 8) == dossier) {
+        if (u64_at(archive, at + 8) == dossier) & (u32_at(archive, at) == head) {
             return true;
         }
         k += 1;

@@ -18,18 +18,18 @@ abbrev μ-loop : tie.MeasureT-loop
 μ-loop archive n case head dossier k₀ k = n - k
 
 -- what the numbers that were read say of record k
-looked-at : (t : tie.After-u64-at2 Inv-loop μ-loop)
+looked-at : (t : tie.After-u32-at2 Inv-loop μ-loop)
     → let l = t .before .before .before .loop in
     let g = t .before .before .before .before in
     let a = g .before .before .before .before .args in
     held (firstLines recordSize (a .n) (a .archive .now)) (a .case .now)
-    ≡ ((eqb (t .before .u32-at2 .result) (g .before .u32-at .result) && eqb (t .u64-at2 .result) (g .u64-at .result)) || held (from (a .archive .now) (a .n) (l .k + 1)) (a .case .now))
+    ≡ ((eqb (t .before .u64-at2 .result) (g .u64-at .result) && eqb (t .u32-at2 .result) (g .before .u32-at .result)) || held (from (a .archive .now) (a .n) (l .k + 1)) (a .case .now))
 looked-at t =
     let l = t .before .before .before .loop in
     let g = t .before .before .before .before in
     let s = g .before .before .before .before in
     let a = s .args in
-    let w = same-numbers (a .archive .now) (a .case .now) (l .k) (λ i. g .before .before .before .shared-slice-known .given i .fits) (λ i. g .before .before .shared-slice-known2 .given i .fits) (omega arith) (s .pre .1) (t .before .u32-at2 .ensures) (g .before .u32-at .ensures) (t .u64-at2 .ensures) (g .u64-at .ensures) in
+    let w = same-numbers (a .archive .now) (a .case .now) (l .k) (λ i. g .before .before .before .shared-slice-known .given i .fits) (λ i. g .before .before .shared-slice-known2 .given i .fits) (omega arith) (s .pre .1) (t .u32-at2 .ensures) (g .before .u32-at .ensures) (t .before .u64-at2 .ensures) (g .u64-at .ensures) in
     l .inv .1 ∙ held-step (a .archive .now) (a .case .now) (a .n) (l .k) (t .before .before .loop-test .taken) ∙ rw (sym w)
 
 pub is-held-spec : {M : Type 1} → statement M
@@ -44,8 +44,8 @@ is-held-spec =
     let a = c .before .before .before .before .args in
     (omega arith, ap (λ (l : List Line). held l (a .case .now)) (sym (from-start (a .archive .now) (a .n)))))
     (λ c. omega arith)
-    (λ c κs. omega arith)
     (λ c. omega arith)
+    (λ c κs. omega arith)
     (λ c κs. omega arith)
     (λ c. sym (looked-at (c .before) ∙ rw (c .if1 .taken)))
     (λ c. omega arith)
