@@ -1,10 +1,12 @@
 -- Laws on products.
 --   grow-none, grow-one, grow-two   `grow`: the carry takes no limb, or one or two, the top one not 0
 --   product-take, product-again     one more factor
+--   product-monotone                one place of a list with a larger number, which the order of doses will want
+--   product-pointwise               no place of a list with a smaller number
 use mathlib.Core.Path.{_≡_, sym, ap, _∙_}
 use mathlib.Core.List.{List, [], _∷_, _++_}
 use Prim.Native.Nat.{ℕ, zero, suc, _+_, _-_, _*_, _/_, _%_, _^_, _≤_, _<_}
-use native.Mathlib.Nat.{mul-assoc, le-of-suc-le-suc}
+use native.Mathlib.Nat.{mul-assoc, le-of-suc-le-suc, le-refl, mul-le-mul, mul-le-mul-left, mul-le-mul-right}
 use native.Mathlib.Omega.{arith}
 use native.Mathlib.Numerals.{add-one}
 use lib.ListN.{length, take, drop, getD, set, length-set}
@@ -54,3 +56,16 @@ product-again l i u x y h ey ex =
     let p : u * productOf (take (suc i) l) ≡ u * (productOf (take i l) * getD l i 0) = ap (λ (n : ℕ). u * n) (product-take l i h) in
     let e : y * getD l i 0 ≡ u * productOf (take i l) * getD l i 0 = ap (λ (n : ℕ). n * getD l i 0) ey in
     rw add-one (omega arith)
+
+pub product-monotone : (l : List ℕ) (i x y : ℕ) → x ≤ y → productOf (set l i x) ≤ productOf (set l i y)
+unfolding productOf
+product-monotone [] i x y h = le-refl 1
+product-monotone (z ∷ l) zero x y h = mul-le-mul-right {m = x} {n = y} (productOf l) h
+product-monotone (z ∷ l) (suc i) x y h = mul-le-mul-left {m = productOf (set l i x)} {n = productOf (set l i y)} z (product-monotone l i x y h)
+
+pub product-pointwise : (l m : List ℕ) → length l ≡ length m → ((i : ℕ) → getD l i 0 ≤ getD m i 0) → productOf l ≤ productOf m
+unfolding productOf
+product-pointwise [] [] e h = le-refl 1
+product-pointwise [] (y ∷ m) e h = omega arith
+product-pointwise (x ∷ l) [] e h = omega arith
+product-pointwise (x ∷ l) (y ∷ m) e h = mul-le-mul {n₁ = x} {m₁ = productOf l} {n₂ = y} {m₂ = productOf m} (h 0) (product-pointwise l m (omega arith) (λ i. h (suc i)))
