@@ -337,3 +337,15 @@ fn usage_errors_end_with_64() {
     place.run(&["file", "missing", "kind=4", "row=1", "dossier=7"]).ends(66);
     place.run(&["new", "missing/archive"]).ends(73);
 }
+
+/// A result or a refusal that its reader did not get is no success, and not that refusal either.
+#[test]
+#[cfg(target_os = "linux")]
+fn standard_output_that_takes_nothing_ends_with_74() {
+    let place = Place::new("unwritable");
+    for words in [with("work-out", &P1), with("work-out", &["kind=9", "--json"]), vec!["help"]] {
+        let full = std::fs::OpenOptions::new().write(true).open("/dev/full").unwrap();
+        let ran = common::Ran::of(place.command(&words).stdout(full).output().unwrap());
+        assert!(ran.ends(74).err.contains("csorvelin: standard output: "), "{words:?}: {}", ran.err);
+    }
+}

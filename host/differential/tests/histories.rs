@@ -203,7 +203,8 @@ fn the_same_filing_bit_by_bit() {
             let answer = calls::file(history.buffer.buffer(), history.used, &other).0;
             let refusal = calls::work_out(&other).0;
             let same = !matches!(bit / 8, 0..=3 | 8..=15);
-            assert_eq!(answer, if refusal != 0 { refusal } else if same { 22 } else { 0 }, "bit {bit} of kind {kind}");
+            let expected = if refusal == 0 && same { 22 } else { refusal };
+            assert_eq!(answer, expected, "bit {bit} of kind {kind}");
             held += u32::from(answer == 22);
             filed += u32::from(answer == 0);
         }
