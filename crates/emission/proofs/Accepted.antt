@@ -22,10 +22,10 @@ use Rattle.scenario.specs.declared.Head.{Head}
 use Rattle.scenario.specs.declared.Decoded.the-variants.{Accepted, Refused}
 use Rattle.scenario.proofs.Passed.{Passed, passed}
 use Rattle.product.specs.Ratio.{_over_, roundedUp}
-use Rattle.emission.specs.Equations.{toWater, toAir, toSoil}
-use Rattle.emission.specs.Figures.{micrograms, exactValues, figuresOf}
+use Rattle.equations.specs.Equations.{toWater, toAir, toSoil, micrograms}
+use Rattle.emission.specs.Figures.{exactValues, figuresOf}
 use Rattle.product.specs.Ranges.{UpTo}
-use Rattle.emission.specs.Ranges.{Within, InRange}
+use Rattle.equations.specs.Ranges.{Within, InRange}
 
 -- ── the answer of `decode`
 

@@ -20,9 +20,9 @@ use Rattle.scenario.specs.declared.Head.{Head}
 use Rattle.scenario.proofs.Bools.{both}
 use Rattle.product.specs.Ratio.{Ratio, _over_}
 use Rattle.product.specs.Chain.{Factor, number}
-use Rattle.emission.specs.Equations.{loss, formulation, toWater, toAir, toSoil}
-use Rattle.emission.specs.Figures.{micrograms, exactValues}
-use Rattle.emission.specs.Ranges.{Within, InRange}
+use Rattle.equations.specs.Equations.{loss, formulation, toWater, toAir, toSoil, micrograms}
+use Rattle.emission.specs.Figures.{exactValues}
+use Rattle.equations.specs.Ranges.{Within, InRange}
 
 -- a test that passes at each entry of a table, and at what stands for a row that is not there
 module _ {A : Type 0} (test : A → Bool) where

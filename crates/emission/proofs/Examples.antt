@@ -7,9 +7,9 @@ use Rattle.binary64.specs.Quantity.{wholeAt, whole}
 use Rattle.scenario.specs.Case.{kinds, kindAt, listingsAt, notSixtyFour, kindUnknown, rowUnknown, routeNotAllowed, userNotAllowed, countNotAllowed, notNumber, notZeroBytes, overLimit, sumWithin, sumOver, refusalOf}
 use Rattle.scenario.specs.Decoding.{caseWith, caseOfPatterns, headOf}
 use Rattle.scenario.specs.Builder.{caseBytes}
-use Rattle.emission.specs.Rows.{cities, cityAt, hygienes, hygieneAt}
+use Rattle.equations.specs.Rows.{cities, cityAt, hygienes, hygieneAt}
 use Rattle.product.specs.Chain.{chain}
-use Rattle.emission.specs.Equations.{total, toWater, toAir, toSoil}
+use Rattle.equations.specs.Equations.{total, toWater, toAir, toSoil}
 use Rattle.emission.specs.Figures.{exactValues}
 use Rattle.emission.specs.WorkedExamples.{examples, Gives, Holds, All}
 

@@ -19,13 +19,13 @@ use Rattle.scenario.specs.declared.Case.the-variants.{Measured, Unknown, Applic
 use Rattle.scenario.specs.declared.Head.{Head}
 use Rattle.product.specs.Ratio.{_over_, _·_, exactly, roundedUp}
 use Rattle.product.specs.Chain.{Factor, number, quantity, less, chain}
-use Rattle.emission.specs.Rows.{cities, noCity, cityAt, hygienes, noHygiene, hygieneAt}
-use Rattle.emission.specs.Equations.{total, loss, measured, measuredAt, unknown, unknownAt, application, applicationAt, formulation, consumption, consumptionAt, toWater, toAir, toSoil}
-use Rattle.emission.specs.Figures.{microgram, micrograms, exactValues, figuresOf}
-use Rattle.emission.specs.Ranges.{Within, InRange}
-use Rattle.emission.specs.Constants.{numbers}
+use Rattle.equations.specs.Rows.{cities, noCity, cityAt, hygienes, noHygiene, hygieneAt}
+use Rattle.equations.specs.Equations.{total, loss, measured, measuredAt, unknown, unknownAt, application, applicationAt, formulation, consumption, consumptionAt, toWater, toAir, toSoil, microgram, micrograms}
+use Rattle.emission.specs.Figures.{exactValues, figuresOf}
+use Rattle.equations.specs.Ranges.{Within, InRange}
+use Rattle.equations.specs.Constants.{numbers}
 use Rattle.product.proofs.Ratios.{AtMost, at-most-times}
-use Rattle.emission.proofs.Chains.{others, gather, chain-at-most, remainder-at-most, term, next}
+use Rattle.equations.proofs.Chains.{others, gather, chain-at-most, remainder-at-most, term, next}
 use Rattle.emission.proofs.Accepted.{in-range, figure-rounded}
 use Rattle.emission.proofs.Cases.{every, every-at, by-row, with-loss, of-air, of-soil, each-value}
 use Rattle.emission.proofs.Positive.{lower-not-zero}

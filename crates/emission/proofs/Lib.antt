@@ -1,6 +1,4 @@
 -- Laws and theorems of this crate.
-pub mod Chains
-pub mod Tables
 pub mod Accepted
 pub mod Cases
 pub mod Positive

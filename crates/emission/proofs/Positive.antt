@@ -17,14 +17,14 @@ use Rattle.scenario.specs.declared.Case.the-variants.{Measured, Unknown, Applic
 use Rattle.scenario.specs.declared.Head.{Head}
 use Rattle.scenario.proofs.Bools.{both}
 use Rattle.product.specs.Ratio.{_over_}
-use Rattle.emission.specs.Rows.{cities, noCity, cityAt, hygienes, noHygiene, hygieneAt}
+use Rattle.equations.specs.Rows.{cities, noCity, cityAt, hygienes, noHygiene, hygieneAt}
 use Rattle.product.specs.Chain.{Factor, number, quantity}
-use Rattle.emission.specs.Equations.{measuredAt, unknownAt, application, applicationAt, formulation, consumptionAt, toWater, toAir, toSoil}
+use Rattle.equations.specs.Equations.{measuredAt, unknownAt, application, applicationAt, formulation, consumptionAt, toWater, toAir, toSoil}
 use Rattle.emission.specs.Figures.{exactValues}
-use Rattle.emission.specs.Ranges.{InRange}
-use Rattle.emission.specs.Constants.{numbers}
-use Rattle.emission.proofs.Chains.{AllPositive, emission-positive}
-use Rattle.emission.proofs.Tables.{older-positive}
+use Rattle.equations.specs.Ranges.{InRange}
+use Rattle.equations.specs.Constants.{numbers}
+use Rattle.equations.proofs.Chains.{AllPositive, emission-positive}
+use Rattle.equations.proofs.Tables.{older-positive}
 use Rattle.emission.proofs.Accepted.{in-range}
 use Rattle.emission.proofs.Cases.{every, every-at, by-row, with-loss, of-air, of-soil, each-value}
 

@@ -7,16 +7,8 @@ use Prim.Native.Nat.{ℕ, _+_, _*_, _^_, _≤_, _<_}
 use lib.Dec.{eqb}
 use Rattle.scenario.specs.Case.{routeOf, refusalOf}
 use Rattle.scenario.specs.Decoding.{caseOf, headOf}
-use Rattle.product.specs.Ratio.{Ratio, _over_, _·_, roundedUp}
-use Rattle.product.specs.Chain.{Factor}
-use Rattle.emission.specs.Equations.{total, toWater, toAir, toSoil}
-
--- kilograms to micrograms
-abbrev pub microgram : Ratio
-microgram = 1000000000 over 1
-
-abbrev pub micrograms : List (List Factor) → Ratio
-micrograms e = microgram · total e
+use Rattle.product.specs.Ratio.{Ratio, _over_, roundedUp}
+use Rattle.equations.specs.Equations.{toWater, toAir, toSoil, micrograms}
 
 -- of 64 bytes: STP, surface water, air, soil
 unfoldable pub exactValues : List ℕ → List Ratio

@@ -1,9 +1,5 @@
--- What a reader of this crate must believe, in the order of paper 01: definitions only. Theorems about them stand in proofs/.
--- Exact values, factors and chains are crate product's (`Ratio`, `Chain`).
-pub mod Rows
-pub mod Equations
+-- What a reader of this crate must believe: definitions only. Theorems about them stand in proofs/.
+-- The tables and the seven equations are crate equations' (`Rows`, `Equations`), exact values and chains crate product's.
 pub mod Figures
-pub mod Ranges
-pub mod Constants
 pub mod WorkedExamples
 pub mod Called

@@ -1,21 +1,18 @@
 // The daily emissions of a case: four figures in whole micrograms, each its exact value rounded up once.
-// specs/ says what the exact values are; crate `product` multiplies, `equations` has the seven kinds.
+// specs/ says what a figure is; crate `equations` has the equations of the seven kinds.
 ghost use mathlib.Core.Path.{_≡_};
 ghost use mathlib.Core.Bool.{cond};
 ghost use mathlib.Core.List.{[], _∷_};
 ghost use lib.Dec.{eqb};
 ghost use Rattle.scenario.specs.Case.{refusalOf};
 ghost use Rattle.product.specs.Ratio.{roundedUp};
-ghost use Rattle.emission.specs.Equations.{toWater, toAir, toSoil};
-ghost use Rattle.emission.specs.Figures.{micrograms, figuresOf};
-ghost use Rattle.emission.specs.Ranges.{InRange};
+ghost use Rattle.equations.specs.Equations.{toWater, toAir, toSoil, micrograms};
+ghost use Rattle.emission.specs.Figures.{figuresOf};
+ghost use Rattle.equations.specs.Ranges.{InRange};
 use equations::Emissions;
 use scenario::Case;
 use scenario::Decoded;
 use scenario::Head;
-
-mod constants;
-mod equations;
 
 fn only_water(figure: u64) -> Emissions
     ensures { λ r. ⌜ (r .water ≡ figure) × (r .air ≡ roundedUp (micrograms [])) × (r .soil ≡ roundedUp (micrograms [])) ⌝ }

@@ -1,8 +1,8 @@
 -- By the kind: what is asked of the case is what its equation asks, and what the equation returns is the case's.
 use mathlib.Core.Path.{_∙_}
 use borrow.Author.Needs.{needs}
-use Rattle.emission.specs.Equations.{toWater, toAir, toSoil}
-use Rattle.emission.specs.Ranges.{InRange}
+use Rattle.equations.specs.Equations.{toWater, toAir, toSoil}
+use Rattle.equations.specs.Ranges.{InRange}
 use Rattle.emission.proofs.emissions_of.Statement.{statement}
 use Rattle.emission.proofs.emissions_of.Tie as tie
 

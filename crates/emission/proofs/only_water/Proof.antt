@@ -1,7 +1,7 @@
 -- An emission without an equation is 0 over 1.
 use mathlib.Core.Path.{refl}
 use Rattle.natural.specs.Ceiling.{ceiling}
-use Rattle.emission.specs.Equations.{total}
+use Rattle.equations.specs.Equations.{total}
 use Rattle.emission.proofs.only_water.Statement.{statement}
 use Rattle.emission.proofs.only_water.Tie as tie
 

@@ -1,0 +1,3 @@
+-- Laws of this crate.
+pub mod Chains
+pub mod Tables

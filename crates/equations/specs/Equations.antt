@@ -1,0 +1,129 @@
+-- Equations 1 to 7 as paper 01 prints them, factor by factor in its order, in kg per day.
+use mathlib.Core.Bool.{cond}
+use mathlib.Core.List.{List, [], _∷_, _++_}
+use Prim.Native.Nat.{ℕ, _-_, _*_}
+use lib.Dec.{eqb}
+use lib.Ieee.{Float}
+use Rattle.scenario.specs.declared.Case.{Case}
+use Rattle.scenario.specs.declared.Case.the-variants.{Measured, Unknown, Application, Sanitary, Formulation, Hygiene, Toilets}
+use Rattle.scenario.specs.declared.Head.{Head}
+use Rattle.product.specs.Ratio.{Ratio, _over_, _·_, _⊕_}
+use Rattle.product.specs.Chain.{Factor, number, quantity, less, chain}
+use Rattle.equations.specs.Rows.{City, cityAt, HygieneRow, hygieneAt}
+
+-- the exact value of a sum of chains
+unfoldable pub total : List (List Factor) → Ratio
+total [] = 0 over 1
+total (t ∷ ts) = chain t ⊕ total ts
+
+abbrev pub fixed : Ratio → Factor
+fixed r = number (r .upper) (r .lower)
+
+-- ── equations 1 to 3: L life, A area, V volume, R density, N houses; `..At` with the numbers of a city row
+
+-- houses: 4000·c·30/L recent, 4000·c·(L − 30)/L older
+abbrev pub recent : Float → ℕ → List Factor
+recent c L = number 4000 1 ∷ quantity c ∷ number 30 1 ∷ number 1 L ∷ []
+
+abbrev pub older : Float → ℕ → List Factor
+older c L = number 4000 1 ∷ quantity c ∷ number (L - 30) 1 ∷ number 1 L ∷ []
+
+-- 1. E = recent·a·A/30 + older·b·A/(L − 30)
+abbrev pub measured : Float → Float → Float → Factor → ℕ → List (List Factor)
+measured a b c A L =
+    (recent c L ++ (quantity a ∷ A ∷ number 1 30 ∷ []))
+    ∷ (older c L ++ (quantity b ∷ A ∷ number 1 (L - 30) ∷ []))
+    ∷ []
+
+abbrev pub measuredAt : Float → Float → Float → City → List (List Factor)
+measuredAt a b c r = measured a b c (fixed (r .area)) (r .life)
+
+-- 2. E = 4000·c·A·V·R·a/(1000·L)
+abbrev pub unknown : Float → Float → Factor → Factor → Factor → ℕ → List (List Factor)
+unknown a c A volume R L = (number 4000 1 ∷ quantity c ∷ A ∷ volume ∷ R ∷ quantity a ∷ number 1 (1000 * L) ∷ []) ∷ []
+
+abbrev pub unknownAt : Float → Float → City → List (List Factor)
+unknownAt a c r = unknown a c (fixed (r .area)) (fixed (r .volume)) (fixed (r .density)) (r .life)
+
+-- B, what is lost at application: 3 hundredths by professionals, 5 by the others (001, l. 286-287)
+abbrev pub loss : ℕ → Factor
+loss user = cond (eqb user 1) (number 3 100) (number 5 100)
+
+-- 3. E = A·V·R·a·B·N/1000
+abbrev pub application : Float → Factor → Factor → Factor → Factor → ℕ → List (List Factor)
+application a A volume R B N = (A ∷ volume ∷ R ∷ quantity a ∷ B ∷ number N 1 ∷ number 1 1000 ∷ []) ∷ []
+
+abbrev pub applicationAt : Float → Factor → City → List (List Factor)
+applicationAt a B r = application a (fixed (r .area)) (fixed (r .volume)) (fixed (r .density)) B (r .houses)
+
+-- ── equations 4 to 7
+
+-- 4. E = a·0.1·1000·0.002·(1 − b)·c/D
+abbrev pub sanitary : Float → Float → Float → ℕ → List (List Factor)
+sanitary a b c D = (quantity a ∷ number 1 10 ∷ number 1000 1 ∷ number 2 1000 ∷ less b ∷ quantity c ∷ number 1 D ∷ []) ∷ []
+
+-- 5. E = a·1000·b·c/T for water, with d for air, e for soil
+abbrev pub formulation : Float → Float → Float → ℕ → List (List Factor)
+formulation a b c T = (quantity a ∷ number 1000 1 ∷ quantity b ∷ quantity c ∷ number 1 T ∷ []) ∷ []
+
+-- 6. E = 10000·H·M·G·a·b/1000
+abbrev pub consumption : Float → Float → Factor → Factor → Factor → List (List Factor)
+consumption a b G M H = (number 10000 1 ∷ H ∷ M ∷ G ∷ quantity a ∷ quantity b ∷ number 1 1000 ∷ []) ∷ []
+
+abbrev pub consumptionAt : Float → Float → HygieneRow → List (List Factor)
+consumptionAt a b r = consumption a b (fixed (r .grams)) (fixed (r .uses)) (fixed (r .share))
+
+-- 7. E = a·c·b·20·(1 − d)·e·(2000/60)·N
+abbrev pub toilets : Float → Float → Float → Float → Float → ℕ → List (List Factor)
+toilets a b c d e N = (quantity a ∷ quantity c ∷ quantity b ∷ number 20 1 ∷ less d ∷ quantity e ∷ number 2000 60 ∷ number N 1 ∷ []) ∷ []
+
+-- ── the emission of a case to water, air and soil: with row 0 what the case has, otherwise the row's numbers
+
+unfoldable pub toWater : Case → Head → List (List Factor)
+toWater (Measured a b c s) h =
+    cond (eqb (h .row) 0)
+    (measured a b c (quantity (s .area)) (h .count))
+    (measuredAt a b c (cityAt (h .row)))
+toWater (Unknown a c s) h =
+    cond (eqb (h .row) 0)
+    (unknown a c (quantity (s .area)) (quantity (s .volume)) (quantity (s .density)) (h .count))
+    (unknownAt a c (cityAt (h .row)))
+toWater (Application a s) h =
+    cond (eqb (h .row) 0)
+    (application a (quantity (s .area)) (quantity (s .volume)) (quantity (s .density)) (loss (h .user)) (h .count))
+    (applicationAt a (loss (h .user)) (cityAt (h .row)))
+toWater (Sanitary a b c) h = sanitary a b c (cond (eqb (h .row) 0) (h .count) 260)
+toWater (Formulation a b c d e) h = formulation a b c (h .count)
+toWater (Hygiene a b g m s) h =
+    cond (eqb (h .row) 0)
+    (consumption a b (quantity g) (quantity m) (quantity s))
+    (consumptionAt a b (hygieneAt (h .row)))
+toWater (Toilets a b c d e) h = toilets a b c d e (cond (eqb (h .row) 0) (h .count) 1)
+
+-- kind 5 alone has equations for air and soil; a sum of no chains is 0
+unfoldable pub toAir : Case → Head → List (List Factor)
+toAir (Measured a b c s) h = []
+toAir (Unknown a c s) h = []
+toAir (Application a s) h = []
+toAir (Sanitary a b c) h = []
+toAir (Formulation a b c d e) h = formulation a b d (h .count)
+toAir (Hygiene a b g m s) h = []
+toAir (Toilets a b c d e) h = []
+
+unfoldable pub toSoil : Case → Head → List (List Factor)
+toSoil (Measured a b c s) h = []
+toSoil (Unknown a c s) h = []
+toSoil (Application a s) h = []
+toSoil (Sanitary a b c) h = []
+toSoil (Formulation a b c d e) h = formulation a b e (h .count)
+toSoil (Hygiene a b g m s) h = []
+toSoil (Toilets a b c d e) h = []
+
+-- ── in micrograms
+
+-- kilograms to micrograms
+abbrev pub microgram : Ratio
+microgram = 1000000000 over 1
+
+abbrev pub micrograms : List (List Factor) → Ratio
+micrograms e = microgram · total e
