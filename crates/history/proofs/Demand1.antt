@@ -16,6 +16,7 @@ use Rattle.records.specs.Lines.{worstOf, IsWorst}
 use Rattle.records.specs.Buffer.{countAt, linesIn}
 use Rattle.records.proofs.RecordLaws.{length-firstLines}
 use Rattle.records.proofs.WorstLine.{worst-is-highest}
+use Rattle.emission.specs.Called.{ends}
 use Rattle.archive.specs.Archive.{emptyRefusals, emptyRefusal, emptying, emptyBytes, fileRefusals, fileRefusal, filing, fileBytes, showRefusals, showRefusal, showPart, worstRefusals, worstRefusal, naming}
 use Rattle.archive.specs.Answers.{ofEmptied, ofFiling, ofHighest, refusalIn}
 use Rattle.archive.proofs.Refusals.{accepted-refused}
@@ -112,14 +113,14 @@ refusals-in-order = (empty-in-order, file-in-order, show-in-order, worst-in-orde
 
 -- ── a refusal changes nothing
 
-empty-unchanged : (call : EmptyCall) → (refusalIn (ofEmptied (call .result)) ≡ 0 → ⊥) → now (call .ends .0) ≡ now (call .args .0)
+empty-unchanged : (call : EmptyCall) → (refusalIn (ofEmptied (call .result)) ≡ 0 → ⊥) → now (ends call .0) ≡ now (call .args .0)
 unfolding emptyBytes
 empty-unchanged call h =
     let b = now (call .args .0) in
     let e = ap (λ r. refusalIn (ofEmptied r)) (call .kept .0) ∙ ap refusalIn (of-emptying b) in
     call .kept .1 ∙ accepted-refused (emptyRefusal b) _ b (λ z. h (e ∙ z))
 
-file-unchanged : (call : FileCall) → (refusalIn (ofFiling (call .result) (call .args .1 .0)) ≡ 0 → ⊥) → now (call .ends .0) ≡ now (call .args .0)
+file-unchanged : (call : FileCall) → (refusalIn (ofFiling (call .result) (call .args .1 .0)) ≡ 0 → ⊥) → now (ends call .0) ≡ now (call .args .0)
 unfolding fileBytes
 file-unchanged call h =
     let b = now (call .args .0) in
@@ -135,8 +136,8 @@ show-none call told s h =
 
 -- Show and worst take no buffer that they could write.
 pub unchanged :
-    ((call : EmptyCall) → (refusalIn (ofEmptied (call .result)) ≡ 0 → ⊥) → now (call .ends .0) ≡ now (call .args .0))
-    × ((call : FileCall) → (refusalIn (ofFiling (call .result) (call .args .1 .0)) ≡ 0 → ⊥) → now (call .ends .0) ≡ now (call .args .0))
+    ((call : EmptyCall) → (refusalIn (ofEmptied (call .result)) ≡ 0 → ⊥) → now (ends call .0) ≡ now (call .args .0))
+    × ((call : FileCall) → (refusalIn (ofFiling (call .result) (call .args .1 .0)) ≡ 0 → ⊥) → now (ends call .0) ≡ now (call .args .0))
     × ((call : ShowCall) (told : ShowRefusalCall) → SameArguments call told → (told .result ≡ 0 → ⊥) → now (call .result) ≡ [])
 unchanged = (empty-unchanged, file-unchanged, show-none)
 

@@ -72,7 +72,7 @@ module _ (κs : Lfts 1) (κs₂ : Lfts 2) where
   empty-turn : (b : List ℕ) → EmptyTurn b (ofEmptied (emptying b)) (emptyBytes b)
   unfolding lent
   empty-turn b = record {
-    call = record { κs = κs; args = (lent b, tt); result = emptying b; ends = (lent (emptyBytes b), tt); kept = (refl, refl) };
+    call = record { κs = κs; args = (lent b, tt); result = emptying b; last = (emptyBytes b, tt); kept = (refl, refl) };
     before = refl;
     after = refl;
     says = refl;
@@ -85,14 +85,14 @@ module _ (κs : Lfts 1) (κs₂ : Lfts 2) where
     answer = ofFiling (filing b u c) u;
     bytes = fileBytes b u c;
     turn = record {
-      call = record { κs = κs₂; args = (lent b, (u, (lent c, tt))); result = filing b u c; ends = (lent (fileBytes b u c), (u, (lent c, tt))); kept = (refl, refl) };
+      call = record { κs = κs₂; args = (lent b, (u, (lent c, tt))); result = filing b u c; last = (fileBytes b u c, (tt, (tt, tt))); kept = (refl, refl) };
       before = refl;
       at = refl;
       case = refl;
       after = refl;
       says = refl;
       fed = λ e. record {
-        call = record { κs = κs; args = (lent c, tt); result = record { refusal = refusalOf c; figures = figuresOf c }; ends = (lent c, tt); kept = (refl, refl) };
+        call = record { κs = κs; args = (lent c, tt); result = record { refusal = refusalOf c; figures = figuresOf c }; last = (tt, tt); kept = (refl, refl) };
         on = refl;
         gave = d e;
       };
@@ -102,11 +102,11 @@ module _ (κs : Lfts 1) (κs₂ : Lfts 2) where
     answer = shown (showRefusal b u k) (showPart b u k);
     bytes = b;
     turn = record {
-      call = record { κs = κs; args = (lent b, (u, (k, tt))); result = lent (showPart b u k); ends = (lent b, (u, (k, tt))); kept = refl };
+      call = record { κs = κs; args = (lent b, (u, (k, tt))); result = lent (showPart b u k); last = (tt, (tt, (tt, tt))); kept = refl };
       before = refl;
       at = refl;
       number = refl;
-      told = record { κs = κs; args = (lent b, (u, (k, tt))); result = showRefusal b u k; ends = (lent b, (u, (k, tt))); kept = refl };
+      told = record { κs = κs; args = (lent b, (u, (k, tt))); result = showRefusal b u k; last = (tt, (tt, (tt, tt))); kept = refl };
       same = record { archive = refl; used = refl; number = refl };
       after = refl;
       says = refl;
@@ -116,7 +116,7 @@ module _ (κs : Lfts 1) (κs₂ : Lfts 2) where
     answer = ofHighest (naming b u m);
     bytes = b;
     turn = record {
-      call = record { κs = κs; args = (lent b, (u, (m, tt))); result = naming b u m; ends = (lent b, (u, (m, tt))); kept = refl };
+      call = record { κs = κs; args = (lent b, (u, (m, tt))); result = naming b u m; last = (tt, (tt, (tt, tt))); kept = refl };
       before = refl;
       at = refl;
       compartment = refl;

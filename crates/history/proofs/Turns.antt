@@ -87,14 +87,14 @@ module _ {b : List ℕ} {u : ℕ} {ls : List Line} (h : HoldsLines b u ls) (g : 
       t .says ∙ λ i. shown ((told-is (t .call) (t .told) (t .same) ∙ λ j. showRefusal (t .before j) (t .at j) (t .number j)) i) ((t .call .kept ∙ λ j. showPart (t .before j) (t .at j) (t .number j)) i) in
       record {
         answered = e ∙ rw (sound-is h, count-is h) (ap (shown (cond (leb (length ls) k) 24 0)) (show-answer k (leb (length ls) k) refl));
-        stands = rw (e, ← t .after) still;
+        stands = rw (e, sym (t .after) ∙ t .before) still;
       }
 
   worst-kept : {m : ℕ} {a : Answer} {b′ : List ℕ} → WorstTurn m b u a b′ → Kept (length b) u ls (worst m) a b′
   unfolding answer after worstRefusals judgedWorst
   worst-kept {m} t =
       let e = t .says ∙ ap ofHighest (t .call .kept ∙ λ i. naming (t .before i) (t .at i) (t .compartment i)) ∙ of-naming b u m in
-      record { answered = e ∙ rw (sound-is h, lines-are h, count-is h); stands = rw (e, ← t .after) still }
+      record { answered = e ∙ rw (sound-is h, lines-are h, count-is h); stands = rw (e, sym (t .after) ∙ t .before) still }
 
   empty-stands : (t : Bool) → ltb (length b) trailerSize ≡ t
       → Stands (length b) (accepted (cond t 23 0) (splice b 0 (trailer recordSize edition 0)) b) (accepted (cond t 23 0) (accepted (cond t 23 0) trailerSize 0) u) (accepted (cond t 23 0) [] ls)

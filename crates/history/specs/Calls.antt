@@ -5,7 +5,7 @@ use Prim.Native.Nat.{ℕ, _+_, _*_}
 use denote.Ref.{now}
 use Rattle.binary64.specs.Bytes.{splice}
 use Rattle.scenario.specs.Refusal.{Condition, IsFirst}
-use Rattle.emission.specs.Called.{Called}
+use Rattle.emission.specs.Called.{Called, ends}
 use Rattle.emission.proofs.work_out.Kinds as work-out-kinds
 use Rattle.emission.proofs.work_out.Reads as work-out-reads
 use Rattle.records.specs.Layout.{trailer, usedLength, recordSize, edition, bytesAt}
@@ -63,7 +63,7 @@ abbrev pub EmptyInOrder : EmptyCall → Type 0
 EmptyInOrder call =
     let b = now (call .args .0) in
     InOrder (emptyRefusals b) (refusalIn (ofEmptied (call .result)))
-    ((call .result ≡ Used 16) × (now (call .ends .0) ≡ splice b 0 (trailer recordSize edition 0)))
+    ((call .result ≡ Used 16) × (now (ends call .0) ≡ splice b 0 (trailer recordSize edition 0)))
 
 abbrev pub FileInOrder : FileCall → Type 0
 FileInOrder call =
@@ -71,7 +71,7 @@ FileInOrder call =
     let u = call .args .1 .0 in
     let c = now (call .args .1 .1 .0) in
     InOrder (fileRefusals b u c) (refusalIn (ofFiling (call .result) u))
-    ((call .result ≡ Filed (countAt b u) (usedLength recordSize (countAt b u + 1))) × (now (call .ends .0) ≡ written b (countAt b u) (lineFor c)))
+    ((call .result ≡ Filed (countAt b u) (usedLength recordSize (countAt b u + 1))) × (now (ends call .0) ≡ written b (countAt b u) (lineFor c)))
 
 abbrev pub ShowInOrder : ShowCall → ShowRefusalCall → Type 0
 ShowInOrder call told =

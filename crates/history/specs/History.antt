@@ -6,6 +6,7 @@ use denote.Ref.{now}
 use lib.ListN.{length, getD, take}
 use Rattle.scenario.specs.Case.{refusalOf}
 use Rattle.product.specs.Ratio.{_over_}
+use Rattle.emission.specs.Called.{ends}
 use Rattle.emission.specs.Figures.{exactValues, figuresOf, WithinBounds, margin}
 use Rattle.records.specs.Layout.{Line, archiveOf, usedLength, recordSize, edition}
 use Rattle.archive.specs.Answers.{Answer, emptied, filed, shown, ofEmptied, ofFiling, ofHighest, handed}
@@ -23,7 +24,7 @@ pub record WorkedOut (c f : List ℕ) : Type 0 where
 pub record EmptyTurn (b : List ℕ) (a : Answer) (b′ : List ℕ) : Type 0 where
   pub call : EmptyCall
   pub before : now (call .args .0) ≡ b
-  pub after : now (call .ends .0) ≡ b′
+  pub after : now (ends call .0) ≡ b′
   pub says : a ≡ ofEmptied (call .result)
 
 -- The figures f are free where the case c is refused by its ranges: the ledger is fed none then.
@@ -32,7 +33,7 @@ pub record FileTurn (c f b : List ℕ) (u : ℕ) (a : Answer) (b′ : List ℕ) 
   pub before : now (call .args .0) ≡ b
   pub at : call .args .1 .0 ≡ u
   pub case : now (call .args .1 .1 .0) ≡ c
-  pub after : now (call .ends .0) ≡ b′
+  pub after : now (ends call .0) ≡ b′
   pub says : a ≡ ofFiling (call .result) u
   pub fed : refusalOf c ≡ 0 → WorkedOut c f
 
@@ -44,7 +45,7 @@ pub record ShowTurn (k : ℕ) (b : List ℕ) (u : ℕ) (a : Answer) (b′ : List
   pub number : call .args .1 .1 .0 ≡ k
   pub told : ShowRefusalCall
   pub same : SameArguments call told
-  pub after : b ≡ b′
+  pub after : now (ends call .0) ≡ b′
   pub says : a ≡ shown (told .result) (now (call .result))
 
 pub record WorstTurn (m : ℕ) (b : List ℕ) (u : ℕ) (a : Answer) (b′ : List ℕ) : Type 0 where
@@ -52,7 +53,7 @@ pub record WorstTurn (m : ℕ) (b : List ℕ) (u : ℕ) (a : Answer) (b′ : Lis
   pub before : now (call .args .0) ≡ b
   pub at : call .args .1 .0 ≡ u
   pub compartment : call .args .1 .1 .0 ≡ m
-  pub after : b ≡ b′
+  pub after : now (ends call .0) ≡ b′
   pub says : a ≡ ofHighest (call .result)
 
 abbrev pub Turn : Request → List ℕ → ℕ → Answer → List ℕ → Type 0
