@@ -1,6 +1,6 @@
 -- Demand 1, of calls of the very functions.
 -- `refusals-in-order`: of each call, the refusal is the first of its list that holds, otherwise the result is the stated one.
--- `unchanged`: a refusal leaves every byte as it was, and shows none.
+-- `unchanged`: a refusal leaves every byte as it was, and shows none; what is lent to be read is left as it was in any case.
 -- So that they say something: `met` (the functions meet the contracts that a call goes by) and `asks-nothing` (no call asks anything of its caller).
 use mathlib.Core.Path.{_≡_, refl, sym, ap, _∙_, subst}
 use mathlib.Core.List.{List, []}
@@ -134,12 +134,16 @@ unfolding showPart
 show-none call told s h =
     call .kept ∙ accepted-refused (showRefusal (now (call .args .0)) (call .args .1 .0) (call .args .1 .1 .0)) _ [] (λ z. h (told-is call told s ∙ z))
 
--- Show and worst take no buffer that they could write.
+-- Show, its companion and worst leave every byte, refused or not, and so does file of its case: what is lent to be read is not written.
 pub unchanged :
     ((call : EmptyCall) → (refusalIn (ofEmptied (call .result)) ≡ 0 → ⊥) → now (ends call .0) ≡ now (call .args .0))
     × ((call : FileCall) → (refusalIn (ofFiling (call .result) (call .args .1 .0)) ≡ 0 → ⊥) → now (ends call .0) ≡ now (call .args .0))
     × ((call : ShowCall) (told : ShowRefusalCall) → SameArguments call told → (told .result ≡ 0 → ⊥) → now (call .result) ≡ [])
-unchanged = (empty-unchanged, file-unchanged, show-none)
+    × ((call : FileCall) → now (ends call .1 .1 .0) ≡ now (call .args .1 .1 .0))
+    × ((call : ShowCall) → now (ends call .0) ≡ now (call .args .0))
+    × ((call : ShowRefusalCall) → now (ends call .0) ≡ now (call .args .0))
+    × ((call : WorstCall) → now (ends call .0) ≡ now (call .args .0))
+unchanged = (empty-unchanged, file-unchanged, show-none, λ call. refl, λ call. refl, λ call. refl, λ call. refl)
 
 -- ── the functions meet the contracts that a call goes by
 

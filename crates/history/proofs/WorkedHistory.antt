@@ -1,19 +1,41 @@
--- `worked-history`: the ledger's answers to the calls of the table are those that it prints, by computation.
+-- By computation: `worked-history`, the ledger's answers to the calls of the table are those that it prints; and `worked-fed`, the figures
+-- that it feeds are those of the cases, with route 2, air, soil, a value rounded up and a value of zero among them.
 use mathlib.Core.Path.{_≡_, refl}
 use mathlib.Core.List.{List, [], map}
-use lib.Ieee.{ofBits, add, le}
+use lib.Ieee.{ofBits, toBits, add, le}
 use Rattle.binary64.specs.Bytes.{bytesOf, numberOf, numberAt}
 use Rattle.binary64.specs.Pattern.{isUnsignedFinite}
 use Rattle.binary64.specs.Quantity.{wholeAt, whole}
-use Rattle.scenario.specs.Case.{kinds, kindAt, listingsAt, notSixtyFour, kindUnknown, rowUnknown, routeNotAllowed, userNotAllowed, countNotAllowed, notNumber, notZeroBytes, overLimit, sumWithin, sumOver}
+use Rattle.scenario.specs.Case.{kinds, kindAt, listingsAt, notSixtyFour, kindUnknown, rowUnknown, routeNotAllowed, userNotAllowed, countNotAllowed, notNumber, notZeroBytes, overLimit, sumWithin, sumOver, refusalOf}
+use Rattle.scenario.specs.Decoding.{caseWith, caseOfPatterns, headOf}
 use Rattle.scenario.specs.Builder.{caseBytes}
+use Rattle.natural.specs.Ceiling.{ceiling}
+use Rattle.product.specs.Chain.{chain}
+use Rattle.equations.specs.Rows.{cities, cityAt, hygienes, hygieneAt}
+use Rattle.equations.specs.Equations.{total, toWater, toAir, toSoil}
+use Rattle.emission.specs.Figures.{exactValues, figuresOf}
 use Rattle.records.specs.Layout.{figureBytes, recordOf}
 use Rattle.records.specs.Lines.{sameFiling, held, figure, highest, firstWith, worstOf}
 use Rattle.archive.specs.Conditions.{full}
 use Rattle.archive.specs.Answers.{Answer}
 use Rattle.history.specs.Ledger.{judgedEmpty, judgedFile, judgedShow, judgedWorst, answer, after, answers}
+use Rattle.history.specs.History.{AllFed}
 use Rattle.history.specs.WorkedHistory.{Told, workedHistory}
 
 pub worked-history : answers 496 [] (map (λ (t : Told). t .call) workedHistory) ≡ map (λ (t : Told). t .answer) workedHistory
 unfolding workedHistory answers answer after judgedEmpty judgedFile judgedShow judgedWorst sameFiling held full figure highest firstWith worstOf figureBytes recordOf caseBytes bytesOf numberOf numberAt kinds kindAt listingsAt notSixtyFour kindUnknown rowUnknown routeNotAllowed userNotAllowed countNotAllowed notNumber isUnsignedFinite notZeroBytes overLimit whole wholeAt sumOver sumWithin add le ofBits
 worked-history = refl
+
+infixr 1 _and_
+_and_ : {A B : Type 0} → A → B → A × B
+a and b = (a, b)
+
+-- also of the case that is refused, whose figures are zeros
+pub worked-fed : AllFed (map (λ (t : Told). t .call) workedHistory)
+unfolding workedHistory caseBytes bytesOf figuresOf exactValues toWater toAir toSoil chain total cities cityAt hygienes hygieneAt caseOfPatterns caseWith headOf numberAt numberOf refusalOf notSixtyFour kindUnknown rowUnknown routeNotAllowed userNotAllowed countNotAllowed notNumber notZeroBytes overLimit sumWithin sumOver kinds kindAt listingsAt isUnsignedFinite whole wholeAt add le ofBits toBits ceiling
+worked-fed =
+    tt and tt and tt
+    and (λ e. refl) and (λ e. refl) and (λ e. refl) and (λ e. refl) and (λ e. refl) and (λ e. refl) and (λ e. refl) and (λ e. refl) and (λ e. refl) and (λ e. refl)
+    and tt and tt and tt and tt and tt and tt and tt and tt and tt and tt
+    and (λ e. refl)
+    and tt

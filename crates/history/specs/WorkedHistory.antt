@@ -1,5 +1,5 @@
 -- A history in plain numbers: requests on a buffer of 496 bytes, which holds five records, and what the ledger answers. One theorem covers it (`worked-history`).
--- P1, P2, P8 and P10 are the pencil cases of paper 01, P8 with 1/8 tonne; the figures fed are those that work out gives.
+-- P1, P2, P8 and P10 are the pencil cases of paper 01, P8 with 1/8 tonne; the figures fed are those that work out gives (`worked-fed`).
 use mathlib.Core.List.{List, [], _∷_}
 use Prim.Native.Nat.{ℕ}
 use Rattle.scenario.specs.Builder.{caseBytes, hundred, unit, half, quarter, eighth, sixty-fourth}
