@@ -15,7 +15,7 @@ use Rattle.binary64.proofs.Splice.{length-splice}
 use Rattle.records.specs.Layout.{Line, noLine, recordOf, records, trailer, archiveOf, firstLines, trailerSize, usedLength, mostRecords, recordSize, edition, bytesAt}
 use Rattle.records.specs.Buffer.{countAt, distanceAt, editionAt, broken, linesIn, written}
 use Rattle.records.proofs.RecordLaws.{AllStorable, Storable, storable-snoc, length-recordOf, length-records, firstLines-records, record-at, records-snoc}
-use Rattle.records.proofs.Trailer.{not-broken}
+use Rattle.records.proofs.Trailer.{TrailerRead, trailer-read, trailer-sound}
 use Rattle.records.proofs.Writing.{length-trailer}
 
 pub record HoldsLines (b : List ℕ) (u : ℕ) (ls : List Line) : Type 0 where
@@ -24,12 +24,6 @@ pub record HoldsLines (b : List ℕ) (u : ℕ) (ls : List Line) : Type 0 where
   pub length-is : u ≡ usedLength recordSize (length ls)
   pub inside : u ≤ length b
   pub bytes : take u b ≡ archiveOf recordSize edition ls
-
--- a number of k bytes, behind p and before q
-number-behind : (p q : List ℕ) (at k x : ℕ) → length p ≡ at → x < 256 ^ k → numberAt (p ++ (bytesOf k x ++ q)) at k ≡ x
-unfolding numberAt
-number-behind p q at k x h f =
-    rw (drop-at p (bytesOf k x ++ q) at h, take-at (bytesOf k x) q k (length-bytesOf k x), numberOf-bytesOf) (mod-eq-of-lt f)
 
 module _ {b : List ℕ} {u : ℕ} {ls : List Line} (s : HoldsLines b u ls) where
   abbrev n : ℕ
@@ -45,40 +39,14 @@ module _ {b : List ℕ} {u : ℕ} {ls : List Line} (s : HoldsLines b u ls) where
   long : length (records ls) ≡ recordSize * length ls
   long = length-records ls (s .storable)
 
+  read : TrailerRead b u n
+  read = trailer-read (records ls) rest whole (omega (arith, long, s .length-is)) (s .few)
+
   pub count-is : countAt b u ≡ length ls
-  unfolding trailer
-  count-is =
-      let D = bytesOf 8 (recordSize * n) in
-      let e : b ≡ (records ls ++ D) ++ (bytesOf 4 n ++ (bytesOf 4 edition ++ rest)) = whole ∙ simp append-assoc in
-      ap (λ (r : List ℕ). numberAt r (u - 8) 4) e
-      ∙ number-behind (records ls ++ D) (bytesOf 4 edition ++ rest) (u - 8) 4 n (omega (arith, length-append (records ls) D, length-bytesOf 8 (recordSize * n), long, s .length-is)) (omega (arith, s .few))
-
-  distance-is : distanceAt b u ≡ recordSize * length ls
-  unfolding trailer
-  distance-is =
-      let e : b ≡ records ls ++ (bytesOf 8 (recordSize * n) ++ (bytesOf 4 n ++ (bytesOf 4 edition ++ rest))) = whole ∙ simp append-assoc in
-      ap (λ (r : List ℕ). numberAt r (u - 16) 8) e
-      ∙ number-behind (records ls) (bytesOf 4 n ++ (bytesOf 4 edition ++ rest)) (u - 16) 8 (recordSize * n) (omega (arith, long, s .length-is)) (omega (arith, s .few))
-
-  edition-is : editionAt b u ≡ edition
-  unfolding trailer
-  edition-is =
-      let D = bytesOf 8 (recordSize * n) in
-      let N = bytesOf 4 n in
-      let e : b ≡ (records ls ++ (D ++ N)) ++ (bytesOf 4 edition ++ rest) = whole ∙ simp append-assoc in
-      ap (λ (r : List ℕ). numberAt r (u - 4) 4) e
-      ∙ number-behind (records ls ++ (D ++ N)) rest (u - 4) 4 edition
-      (omega (arith, length-append (records ls) (D ++ N), length-append D N, length-bytesOf 8 (recordSize * n), length-bytesOf 4 n, long, s .length-is)) (omega arith)
+  count-is = read .count-is
 
   pub sound-is : broken b u ≡ false
-  sound-is = not-broken b u (record {
-    inside = s .inside;
-    at-least = omega (arith, s .length-is);
-    few = rw count-is (s .few);
-    length-is = rw count-is (s .length-is);
-    distance-is = rw count-is distance-is;
-    edition-is = edition-is;
-  })
+  sound-is = trailer-sound read (s .length-is) (s .inside) (s .few)
 
   pub lines-are : linesIn b u ≡ ls
   lines-are = rw count-is (ap (firstLines recordSize n) whole ∙ firstLines-records ls (trailer recordSize edition n ++ rest) (s .storable))

@@ -1,17 +1,17 @@
 -- Refusal 21 in bytes: where it does not hold, the 16 bytes before the used length are the trailer of the n that stands there, byte for byte, and n
--- is at most 1,000,000: `trailer-there`. That the archive of some lines is not refused is `sound-is` in Holding.
-use mathlib.Core.Path.{_≡_, sym, ap, _∙_}
+-- is at most 1,000,000: `trailer-there`. Where those bytes stand there, it does not hold: `trailer-enough`. The bytes themselves, of one n: `trailer-bytes`.
+use mathlib.Core.Path.{_≡_, refl, sym, ap, _∙_}
 use mathlib.Core.Bool.{false}
-use mathlib.Core.List.{List, _++_, append-assoc}
+use mathlib.Core.List.{List, [], _∷_, _++_, append-assoc}
 use Prim.Native.Nat.{ℕ, _+_, _-_, _*_, _≤_, _<_}
 use native.Mathlib.Omega.{arith}
-use lib.ListN.{length, getD, take, drop}
+use lib.ListN.{length, getD, take, drop, length-take, take-append-drop}
 use lib.Seq.{take-add, drop-drop}
 use Rattle.binary64.specs.Bytes.{bytesOf}
 use Rattle.binary64.proofs.Numbers.{bytesOf-numberAt}
 use Rattle.records.specs.Layout.{bytesAt, trailer, trailerSize, usedLength, mostRecords, recordSize, edition}
 use Rattle.records.specs.Buffer.{distanceAt, countAt, editionAt, broken}
-use Rattle.records.proofs.Trailer.{sound-facts}
+use Rattle.records.proofs.Trailer.{sound-facts, trailer-read, trailer-sound}
 
 part-add : (b : List ℕ) (at n m : ℕ) → bytesAt b at (n + m) ≡ bytesAt b at n ++ bytesAt b (at + n) m
 part-add b at n m = take-add n m (drop at b) ∙ ap (λ (l : List ℕ). take n (drop at b) ++ take m l) (drop-drop n at b)
@@ -29,3 +29,14 @@ trailer-there b u h e =
     let n : bytesOf 4 (countAt b u) ≡ bytesAt b (u - 8) 4 = bytesOf-numberAt b (u - 8) 4 h (omega arith) in
     let f : bytesOf 4 1 ≡ bytesAt b (u - 4) 4 = ap (bytesOf 4) (sym (s .edition-is)) ∙ bytesOf-numberAt b (u - 4) 4 h (omega arith) in
     (s .few, s .length-is, s .inside, part-add b (u - 16) 8 8 ∙ rw (p, part-add b (u - 8) 4 4, q, d, n, f) (sym (append-assoc (bytesAt b (u - 16) 8) (bytesAt b (u - 8) 4) (bytesAt b (u - 4) 4))))
+
+pub trailer-enough : (b : List ℕ) (u n : ℕ) → n ≤ 1000000 → u ≡ 96 * n + 16 → u ≤ length b → bytesAt b (u - 16) 16 ≡ trailer 96 1 n → broken b u ≡ false
+trailer-enough b u n few l i t =
+    let e : b ≡ take (u - 16) b ++ (trailer 96 1 n ++ drop 16 (drop (u - 16) b)) =
+    sym (take-append-drop (u - 16) b) ∙ ap (λ (r : List ℕ). take (u - 16) b ++ r) (sym (take-append-drop 16 (drop (u - 16) b)) ∙ ap (λ (r : List ℕ). r ++ drop 16 (drop (u - 16) b)) t) in
+    trailer-sound (trailer-read (take (u - 16) b) (drop 16 (drop (u - 16) b)) e (omega (arith, l, i, length-take (u - 16) b)) few) l i few
+
+-- 258 records: 24,768 bytes before the trailer, then 258, then edition 1, each with its lowest byte first
+pub trailer-bytes : trailer 96 1 258 ≡ 192 ∷ 96 ∷ 0 ∷ 0 ∷ 0 ∷ 0 ∷ 0 ∷ 0 ∷ 2 ∷ 1 ∷ 0 ∷ 0 ∷ 1 ∷ 0 ∷ 0 ∷ 0 ∷ []
+unfolding trailer bytesOf
+trailer-bytes = refl
