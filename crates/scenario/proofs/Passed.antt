@@ -1,6 +1,6 @@
 -- `passed`: a case that no refusal holds for satisfies what the record `Passed` says.
 -- A pattern's exact value and its order are in crate binary64.
-use mathlib.Core.Path.{_≡_, refl, subst}
+use mathlib.Core.Path.{_≡_, refl, sym, _∙_, subst}
 use mathlib.Core.Bool.{Bool, true, false, _&&_, _||_}
 use mathlib.Core.List.{List}
 use Prim.Native.Nat.{ℕ, _*_, _≤_, _<_}
@@ -27,14 +27,21 @@ own-count k row t e w = rw (eq-eqb row 0 e) at w
 paper-count : (k row t : ℕ) → (row ≡ 0 → ⊥) → within (countsAt k row) t ≡ true → t ≡ 0
 paper-count k row t h w = paper-rows-count k t (rw (ne-eqb row 0 h) at w)
 
-routes : (k row route : ℕ) → routeNotAllowed k row route ≡ false → (1 ≤ route) × (route ≤ 2) × (route ≡ 2 → k ≤ 3)
+-- the rows of the rain sewer are neither 1 nor 2
+not-indoors : (row n : ℕ) → row ≡ n → (eqb n 0 || within (3 to 7) n) ≡ false → (eqb row 0 || within (3 to 7) row) ≡ true → ⊥
+not-indoors row n e f t = let z : true ≡ false = sym t ∙ (rw e f) in let o : _≡_ {A = ℕ} 0 1 = cc in absurd (omega arith)
+
+routes : (k row route : ℕ) → routeNotAllowed k row route ≡ false → (1 ≤ route) × (route ≤ 2) × (route ≡ 2 → (k ≤ 3) × (row ≡ 1 → ⊥) × (row ≡ 2 → ⊥))
 unfolding routeNotAllowed
 routes k row route e = go (eqb route 1) (eqb route 2) (within (1 to 3) k) refl refl refl (not-false _ e)
   where
     go : (p q r : Bool) → eqb route 1 ≡ p → eqb route 2 ≡ q → within (1 to 3) k ≡ r → (p || (q && (r && (eqb row 0 || within (3 to 7) row)))) ≡ true
-        → (1 ≤ route) × (route ≤ 2) × (route ≡ 2 → k ≤ 3)
+        → (1 ≤ route) × (route ≤ 2) × (route ≡ 2 → (k ≤ 3) × (row ≡ 1 → ⊥) × (row ≡ 2 → ⊥))
     go true q r ep eq er h = let o = eqb-true route 1 ep in (omega arith, omega arith, λ (z : route ≡ 2). absurd (omega arith))
-    go false true true ep eq er h = let o = eqb-true route 2 eq in let i = in-range (1 to 3) k er in (omega arith, omega arith, λ (z : route ≡ 2). i .1)
+    go false true true ep eq er h =
+        let o = eqb-true route 2 eq in
+        let i = in-range (1 to 3) k er in
+        (omega arith, omega arith, λ (z : route ≡ 2). (i .1, λ (q : row ≡ 1). not-indoors row 1 q refl h, λ (q : row ≡ 2). not-indoors row 2 q refl h))
     go false true false ep eq er h = let z : _≡_ {A = ℕ} 0 1 = cc in absurd (omega arith)
     go false false r ep eq er h = let z : _≡_ {A = ℕ} 0 1 = cc in absurd (omega arith)
 

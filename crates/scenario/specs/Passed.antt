@@ -29,7 +29,7 @@ pub record Passed (b : List ℕ) : Type 0 where
   -- the routes and the users
   pub route-from : 1 ≤ routeOf b
   pub route-to : routeOf b ≤ 2
-  pub rain-sewer : routeOf b ≡ 2 → kindOf b ≤ 3
+  pub rain-sewer : routeOf b ≡ 2 → (kindOf b ≤ 3) × (rowOf b ≡ 1 → ⊥) × (rowOf b ≡ 2 → ⊥)
   pub application-user : kindOf b ≡ 3 → (1 ≤ userOf b) × (userOf b ≤ 2)
   pub other-user : (kindOf b ≡ 3 → ⊥) → userOf b ≡ 0
   -- T, with row 0 and with the paper's rows
