@@ -1,5 +1,5 @@
 -- Laws of decimal digits.
---   value-snoc, value-from, one-below, snoc-below            values and bounds of digit lists
+--   value-snoc, value-from                       values of digit lists
 --   digits-step                                  `digits` by one division
 --   digits-are, digits-only                      `digits n` is the decimal of n, and nothing else is
 --   decimal-last, decimal-more                   a number's text, by one division

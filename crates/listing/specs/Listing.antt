@@ -60,7 +60,7 @@ linesText k (l ∷ ls) = lineText k l ++ linesText (k + 1) ls
 abbrev pub mostInput : ℕ
 mostInput = 65536
 
--- the most bytes that a listing has: `listing-at-most`
+-- no listing has more bytes: `listing-at-most`
 abbrev pub mostOutput : ℕ
 mostOutput = 74384
 

@@ -12,9 +12,10 @@ use records::is_broken;
 mod decimal;
 mod lines;
 
-// The most bytes that are taken, and the most that a listing has.
+// The most bytes that are taken.
 pub const MOST_INPUT: usize = 65536;
 
+// No listing has more bytes.
 pub const MOST_OUTPUT: usize = 74384;
 
 const HEADER_SIZE: usize = 46;

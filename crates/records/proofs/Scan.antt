@@ -1,5 +1,6 @@
 -- Laws of searching the records of a buffer.
--- The lines from record k on: `from`, `from-start`, `from-end`, `from-cons`. The same filing by two numbers: `same-numbers`; `held-here`, `held-next`, `held-none`.
+-- The lines from record k on: `from`, `from-start`, `from-end`, `from-cons`. The same filing by two numbers: `same-numbers`; `held-step`, `held-none`;
+-- by the fields that agree: `same-filing-fields`.
 -- The highest figure, from the first record to the last: the next above a figure, `above-here`, `above-next`, `above-none`; `scan-start`, `scan-inside`, `scan-here`, `scan-end`.
 use mathlib.Core.Path.{_≡_, refl, sym, ap, _∙_}
 use mathlib.Core.Bool.{Bool, true, false, _&&_, _||_, cond}

@@ -1,5 +1,5 @@
 -- `edges-hold`: each edge that paper 01 prints has its refusal, by computation on the bytes of the whole case.
--- Further cases run in the program `refusals`.
+-- Further cases run in the program `cases`.
 use mathlib.Core.Path.{_≡_, refl}
 use mathlib.Core.List.{map}
 use lib.Ieee.{ofBits, add, le}

@@ -1,4 +1,4 @@
--- `read-back`: a case that is written by its fields says these fields, each at its whole width.
+-- A case that is written by its fields says these fields, each at its whole width: `small-fields-back`, `count-back`, `dossier-back`, `patterns-back`.
 use mathlib.Core.Path.{_≡_, refl, _∙_}
 use mathlib.Core.List.{List}
 use Prim.Native.Nat.{ℕ, _^_, _<_}

@@ -87,7 +87,7 @@ fn row_name(kind: u8, row: u8) -> &'static str {
 fn route_name(route: u8) -> &'static str {
     match route {
         1 => "to the sewage treatment plant (STP)",
-        2 => "by separated rain sewer to surface water",
+        2 => "to surface water, by the rain sewer",
         _ => "",
     }
 }

@@ -65,7 +65,7 @@ impl Case {
     }
 }
 
-/// Two cases are the same filing when bytes 0 to 3 and 8 to 15 agree. Both must have 16 bytes.
+/// Whether two cases have the same kind, row, route, user (bytes 0 to 3) and dossier number (8 to 15). Both must have 16 bytes.
 pub fn same_filing(one: &[u8], other: &[u8]) -> bool {
     one[0..4] == other[0..4] && one[8..16] == other[8..16]
 }

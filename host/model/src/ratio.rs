@@ -1,4 +1,4 @@
-//! An exact value: two natural numbers, one over the other, the lower not 0. Not always in lowest terms; compared by
+//! An exact value as a fraction of natural numbers with a denominator above 0. Not always in lowest terms; compared by
 //! multiplying across.
 
 use crate::natural::Natural;
