@@ -14,7 +14,7 @@ use Rattle.records.specs.Layout.{Line}
 use Rattle.archive.specs.Archive.{emptyRefusals, emptying, emptyBytes, filing, fileBytes, showRefusal, showPart, naming}
 use Rattle.archive.specs.Answers.{Answer, emptied, shown, ofEmptied, ofFiling, ofHighest, handed}
 use Rattle.history.specs.Ledger.{Request, empty, file, show, worst, after, answers, lines}
-use Rattle.history.specs.History.{EmptyTurn, Turn, Run, done, next, BeginsEmpty, begins, History, After, Fed, AllFed, RunOf, HistoryOf}
+use Rattle.history.specs.History.{EmptyTurn, Turn, Turns, RunBy, done, next, Run, BeginsEmpty, begins, History, After, Fed, AllFed, RunOf, HistoryOf}
 use Rattle.history.proofs.Turns.{Stands, kept, first-stands}
 
 -- ── the theorem
@@ -59,10 +59,24 @@ demand3 h =
 -- ── every list of requests has a run, whatever the buffer and the used length, and a history from a buffer of 16 bytes or more
 
 -- some answer and buffer of one call
-record CanTurn (c : Request) (b : List ℕ) (u : ℕ) : Type 0 where
+record CanTurn (T : Turns) (c : Request) (b : List ℕ) (u : ℕ) : Type 0 where
   pub answer : Answer
   pub bytes : List ℕ
-  pub turn : Turn c b u answer bytes
+  pub turn : T c b u answer bytes
+
+-- Where each call can be made, lists of them can; an accepted empty has to be there for a history.
+module _ (T : Turns) (can : (c : Request) → Fed c → (b : List ℕ) (u : ℕ) → CanTurn T c b u) where
+  run-by : (cs : List Request) → AllFed cs → (b : List ℕ) (u : ℕ) → RunOf T b u cs
+  run-by [] d b u = record { answers = []; bytes = b; used = u; run = done }
+  run-by (c ∷ cs) d b u =
+      let t = can c (d .0) b u in
+      let r = run-by cs (d .1) (t .bytes) (handed (t .answer) u) in
+      record { answers = t .answer ∷ r .answers; bytes = r .bytes; used = r .used; run = next (t .turn) (r .run) }
+
+  history-by : (cs : List Request) → AllFed cs → (b : List ℕ) → T empty b 0 (emptied 0 16) (emptyBytes b) → HistoryOf T b cs
+  history-by cs d b t =
+      let r = run-by cs d (emptyBytes b) 16 in
+      record { answers = r .answers; bytes = r .bytes; used = r .used; history = record { given = 0; run = next t (r .run); begun = begins } }
 
 -- a reference to some bytes
 lent : List ℕ → RefT (List ℕ)
@@ -78,7 +92,7 @@ module _ (κs : Lfts 1) (κs₂ : Lfts 2) where
     says = refl;
   }
 
-  turn-can : (c : Request) → Fed c → (b : List ℕ) (u : ℕ) → CanTurn c b u
+  turn-can : (c : Request) → Fed c → (b : List ℕ) (u : ℕ) → CanTurn Turn c b u
   unfolding lent
   turn-can empty d b u = record { answer = ofEmptied (emptying b); bytes = emptyBytes b; turn = empty-turn b }
   turn-can (file c f) d b u = record {
@@ -125,22 +139,11 @@ module _ (κs : Lfts 1) (κs₂ : Lfts 2) where
     };
   }
 
-  pub run-can : (cs : List Request) → AllFed cs → (b : List ℕ) (u : ℕ) → RunOf b u cs
-  run-can [] d b u = record { answers = []; bytes = b; used = u; run = done }
-  run-can (c ∷ cs) d b u =
-      let t = turn-can c (d .0) b u in
-      let r = run-can cs (d .1) (t .bytes) (handed (t .answer) u) in
-      record { answers = t .answer ∷ r .answers; bytes = r .bytes; used = r .used; run = next (t .turn) (r .run) }
+  pub run-can : (cs : List Request) → AllFed cs → (b : List ℕ) (u : ℕ) → RunOf Turn b u cs
+  run-can = run-by Turn turn-can
 
-  pub history-can : (cs : List Request) → AllFed cs → (b : List ℕ) → 16 ≤ length b → HistoryOf b cs
+  pub history-can : (cs : List Request) → AllFed cs → (b : List ℕ) → 16 ≤ length b → HistoryOf Turn b cs
   unfolding emptyRefusals emptying
   history-can cs d b h =
-      let r = run-can cs d (emptyBytes b) 16 in
       let e : emptied 0 16 ≡ ofEmptied (emptying b) = rw (le-ltb (length b) 16 h) in
-      let t : EmptyTurn b (emptied 0 16) (emptyBytes b) = rw e (empty-turn b) in
-      record {
-        answers = r .answers;
-        bytes = r .bytes;
-        used = r .used;
-        history = record { given = 0; run = next t (r .run); begun = begins };
-      }
+      history-by Turn turn-can cs d b (rw e (empty-turn b))

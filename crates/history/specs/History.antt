@@ -64,21 +64,31 @@ Turn (worst m) b u a b′ = WorstTurn m b u a b′
 
 -- ── a list of requests cs with answers rs, from the buffer b at the used length u to b″ at u″
 
+-- what one call is: Turn, or a call of the C interface (Interface)
+abbrev pub Turns : Type 1
+Turns = Request → List ℕ → ℕ → Answer → List ℕ → Type 0
+
 -- Buffer and used length go from each call to the next: b′ as it is left, and u replaced where an empty or a filing was accepted.
-pub data Run : List ℕ → ℕ → List Request → List Answer → List ℕ → ℕ → Type 0 where
-  done : {b : List ℕ} {u : ℕ} → Run b u [] [] b u
+pub data RunBy (T : Turns) : List ℕ → ℕ → List Request → List Answer → List ℕ → ℕ → Type 0 where
+  done : {b : List ℕ} {u : ℕ} → RunBy T b u [] [] b u
   next : {b : List ℕ} {u : ℕ} {c : Request} {a : Answer} {b′ : List ℕ} {cs : List Request} {rs : List Answer} {b″ : List ℕ} {u″ : ℕ}
-      → Turn c b u a b′ → Run b′ (handed a u) cs rs b″ u″ → Run b u (c ∷ cs) (a ∷ rs) b″ u″
+      → T c b u a b′ → RunBy T b′ (handed a u) cs rs b″ u″ → RunBy T b u (c ∷ cs) (a ∷ rs) b″ u″
 
 -- the first call is an accepted empty
 pub data BeginsEmpty : List Request → List Answer → Type 0 where
   begins : {v : ℕ} {cs : List Request} {rs : List Answer} → BeginsEmpty (empty ∷ cs) (emptied 0 v ∷ rs)
 
 -- A history, the paper's term, on a buffer of any content; the used length that stood there before is no argument of empty.
-pub record History (b : List ℕ) (cs : List Request) (rs : List Answer) (b″ : List ℕ) (u″ : ℕ) : Type 0 where
+pub record HistoryBy (T : Turns) (b : List ℕ) (cs : List Request) (rs : List Answer) (b″ : List ℕ) (u″ : ℕ) : Type 0 where
   pub given : ℕ
-  pub run : Run b given cs rs b″ u″
+  pub run : RunBy T b given cs rs b″ u″
   pub begun : BeginsEmpty cs rs
+
+abbrev pub Run : List ℕ → ℕ → List Request → List Answer → List ℕ → ℕ → Type 0
+Run = RunBy Turn
+
+abbrev pub History : List ℕ → List Request → List Answer → List ℕ → ℕ → Type 0
+History = HistoryBy Turn
 
 -- ── what holds after a history on a buffer of some size
 
@@ -123,14 +133,14 @@ AllFed [] = Unit {0}
 AllFed (c ∷ cs) = Fed c × AllFed cs
 
 -- some answers, buffer and used length of a run of cs; and of a history in which an empty that answers 16 comes before cs
-pub record RunOf (b : List ℕ) (u : ℕ) (cs : List Request) : Type 0 where
+pub record RunOf (T : Turns) (b : List ℕ) (u : ℕ) (cs : List Request) : Type 0 where
   pub answers : List Answer
   pub bytes : List ℕ
   pub used : ℕ
-  pub run : Run b u cs answers bytes used
+  pub run : RunBy T b u cs answers bytes used
 
-pub record HistoryOf (b : List ℕ) (cs : List Request) : Type 0 where
+pub record HistoryOf (T : Turns) (b : List ℕ) (cs : List Request) : Type 0 where
   pub answers : List Answer
   pub bytes : List ℕ
   pub used : ℕ
-  pub history : History b (empty ∷ cs) (emptied 0 16 ∷ answers) bytes used
+  pub history : HistoryBy T b (empty ∷ cs) (emptied 0 16 ∷ answers) bytes used
