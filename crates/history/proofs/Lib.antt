@@ -3,5 +3,7 @@ pub mod AnswerLaws
 pub mod Demand1
 pub mod Turns
 pub mod Demand3
+pub mod Possible
+pub mod Interface
 pub mod FreeSpace
 pub mod WorkedHistory

@@ -1,5 +1,6 @@
--- What a reader of this crate must believe: definitions only. The theorems stand in proofs/: Demand1, Demand3, FreeSpace.
+-- What a reader of this crate must believe: definitions only. The theorems stand in proofs/: Demand1, Demand3, Interface, FreeSpace, WorkedHistory.
 pub mod Calls
 pub mod Ledger
 pub mod History
+pub mod Interface
 pub mod WorkedHistory
