@@ -1,17 +1,19 @@
 -- `worked-examples`: what paper 01 prints of P1 to P10 holds of the equations and the ranges, by computation over the whole table.
+-- `second-route`: P2 by the separated rain sewer, which none of them takes: all of it to surface water.
 use mathlib.Core.Path.{refl}
+use mathlib.Core.List.{[], _∷_}
 use lib.Ieee.{add, le, ofBits, toBits}
 use Rattle.binary64.specs.Bytes.{bytesOf, numberOf, numberAt}
 use Rattle.binary64.specs.Pattern.{isUnsignedFinite}
 use Rattle.binary64.specs.Quantity.{wholeAt, whole}
 use Rattle.scenario.specs.Case.{kinds, kindAt, listingsAt, notSixtyFour, kindUnknown, rowUnknown, routeNotAllowed, userNotAllowed, countNotAllowed, notNumber, notZeroBytes, overLimit, sumWithin, sumOver, refusalOf}
 use Rattle.scenario.specs.Decoding.{caseWith, caseOfPatterns, headOf}
-use Rattle.scenario.specs.Builder.{caseBytes}
+use Rattle.scenario.specs.Builder.{caseBytes, sixty-fourth, unit}
 use Rattle.equations.specs.Rows.{cities, cityAt, hygienes, hygieneAt}
 use Rattle.product.specs.Chain.{chain}
 use Rattle.equations.specs.Equations.{total, toWater, toAir, toSoil}
 use Rattle.emission.specs.Figures.{exactValues}
-use Rattle.emission.specs.WorkedExamples.{examples, Gives, Holds, All}
+use Rattle.emission.specs.WorkedExamples.{exact, kg, nothing, examples, Gives, Holds, All}
 
 infixr 1 _and_
 _and_ : {A B : Type 0} → A → B → A × B
@@ -32,3 +34,7 @@ worked-examples =
     and (refl, refl, refl, refl, refl)
     and (refl, refl, refl, refl, refl)
     and tt
+
+pub second-route : Gives (caseBytes 2 3 2 0 0 7 sixty-fourth 0 unit 0 0 0) (exact (nothing ∷ kg 875 584 ∷ nothing ∷ nothing ∷ []))
+unfolding Gives caseBytes bytesOf exactValues toWater toAir toSoil chain total cities cityAt hygienes hygieneAt caseOfPatterns caseWith headOf numberAt numberOf refusalOf notSixtyFour kindUnknown rowUnknown routeNotAllowed userNotAllowed countNotAllowed notNumber notZeroBytes overLimit sumWithin sumOver kinds kindAt listingsAt isUnsignedFinite whole wholeAt add le ofBits toBits
+second-route = (refl, refl, refl, refl, refl)

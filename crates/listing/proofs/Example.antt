@@ -1,4 +1,5 @@
--- Paper 01's printed example: one record, of case P1.
+-- `printed-example`: paper 01's printed example, one record, of case P1.
+-- `printed-columns`: two records, the columns of the first all different, so that each field is seen to stand in its own column.
 use mathlib.Core.Path.{_≡_, refl}
 use mathlib.Core.List.{List, [], _∷_}
 use Prim.Native.Nat.{ℕ}
@@ -16,3 +17,15 @@ example = archiveOf recordSize edition (record { case = caseBytes 4 1 1 0 0 7 hu
 pub printed-example : listingOf example ≡ codes "n dossier kind row route stp surface air soil\n0 7 4 1 1 76924 0 0 0\n"
 unfolding listingOf refused broken header codes archiveOf records recordOf figureBytes trailer caseBytes bytesOf numberAt numberOf firstLines lineOf figuresIn linesText lineText columnsText columnsOf decimal digits digitsWithin ceiling
 printed-example = refl
+
+-- the quantities are not printed; figures around a thousand micrograms
+abbrev pub two-records : List ℕ
+two-records =
+    archiveOf
+    recordSize
+    edition
+    (record { case = caseBytes 3 4 2 1 0 12 0 0 0 0 0 0; figures = 5001 ∷ 7000 ∷ 7001 ∷ 8999 ∷ [] } ∷ record { case = caseBytes 1 0 2 0 31 13 0 0 0 0 0 0; figures = 0 ∷ 1 ∷ 0 ∷ 0 ∷ [] } ∷ [])
+
+pub printed-columns : listingOf two-records ≡ codes "n dossier kind row route stp surface air soil\n0 12 3 4 2 6 7 8 9\n1 13 1 0 2 0 1 0 0\n"
+unfolding listingOf refused broken header codes archiveOf records recordOf figureBytes trailer caseBytes bytesOf numberAt numberOf firstLines lineOf figuresIn linesText lineText columnsText columnsOf decimal digits digitsWithin ceiling
+printed-columns = refl
