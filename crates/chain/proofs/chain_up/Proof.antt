@@ -17,7 +17,7 @@ returns c =
     let a = t .before .before .before .before .args in
     let n = t .times-all .result in
     let most = a .start + 2 * length (a .factors .now) in (
-      r .round-up .ensures ∙ ap (λ (v : ℕ). min 18446744073709551615 (ceiling v (2 ^ a .k * a .d))) (t .times-all .ensures .0),
+      r .round-up .ensures .0 ∙ ap (λ (v : ℕ). min 18446744073709551615 (ceiling v (2 ^ a .k * a .d))) (t .times-all .ensures .0),
       front-stays (t .times-all .last .0) (r .round-up .last .0) n most (omega arith) (r .round-up .kept .0) (omega arith) ∙ stays-above (t .times-all .last .0) (a .limbs .now) n most (omega arith) (t .times-all .ensures .5),
     )
 
