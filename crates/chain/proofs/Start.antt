@@ -1,5 +1,6 @@
 -- Laws on the wide starts.
 --   laid, lay-done           `lay`: the limbs below are 0, and x * 2 ^ (at % 32) stands above them
+--   lay-stays                `lay`: the limbs that it does not write
 --   complement-done          `complement`: nothing is borrowed
 --   term-done, add-term-done `lay_term`, `add_term`
 --   term-small, sum-done     `lay_sum`: nothing is carried out
@@ -10,10 +11,11 @@ use native.Mathlib.Nat.{mul-lt-mul-of-pos-right, mul-le-mul-right}
 use native.Mathlib.Omega.{arith}
 use lib.ListN.{length, take, drop, getD, set}
 use lib.Pow.{pow-pos, pow-add, pow-mono}
-use lib.Seq.{length-take-le, length-front}
+use lib.Seq.{length-take-le, length-front, drop-set-lt}
 use Rattle.natural.specs.Value.{value}
 use Rattle.natural.proofs.Value.{weight-split, value-front, value-below, store-three, value-back}
 use Rattle.natural.proofs.Carry.{above, weight-above}
+use Rattle.chain.proofs.Product.{front-stays}
 
 -- y is a number in the limb where 2 ^ at falls
 pub laid : (y x at : ℕ) → y ≡ x * 2 ^ (at % 32) → y * 2 ^ (32 * (at / 32)) ≡ x * 2 ^ at
@@ -31,6 +33,12 @@ lay-done l e x at p y k lo hi h len z ep s el eh =
     let m : p * x ≡ 2 ^ (at % 32) * x = ap (λ (n : ℕ). n * x) ep in
     let g : (y + 4294967296 * k) * 2 ^ (32 * (at / 32)) ≡ x * 2 ^ at = laid (y + 4294967296 * k) x at (omega arith) in
     store-three (e ++ drop (at / 32) l) (at / 32) y k lo hi (omega (arith, length-front l e (at / 32) len)) el eh ∙ omega arith
+
+-- `lay` writes three limbs above those that it cleared
+pub lay-stays : (l e : List ℕ) (n y lo hi : ℕ) → n + 3 ≤ length l → length e ≡ length (take n l) → drop (n + 3) (set (set (set (e ++ drop n l) n y) (n + 1) lo) (n + 2) hi) ≡ drop (n + 3) l
+lay-stays l e n y lo hi h len =
+    drop-set-lt (n + 3) (set (set (e ++ drop n l) n y) (n + 1) lo) (n + 2) hi (omega arith) ∙ drop-set-lt (n + 3) (set (e ++ drop n l) n y) (n + 1) lo (omega arith) ∙ drop-set-lt (n + 3) (e ++ drop n l) n y (omega arith)
+    ∙ front-stays l e n (n + 3) (omega arith) len (omega arith)
 
 no-borrow : (v m t b w : ℕ) → v + m ≡ 2 ^ t + b * w → v < w → m ≤ 2 ^ t → v + m ≡ 2 ^ t
 no-borrow v m t zero w e h hm = omega arith

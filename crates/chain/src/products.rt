@@ -1,17 +1,17 @@
 // Products: the number in the first limbs times a factor, or times all of them.
 ghost use mathlib.Core.Path.{_≡_};
 ghost use Prim.Native.Nat.{_+_, _-_, _*_, _≤_, _<_};
-ghost use lib.ListN.{length, take, getD};
+ghost use lib.ListN.{length, take, drop, getD};
 ghost use Rattle.natural.specs.Value.{value, productOf};
 use natural::arithmetic::times_add;
 use natural::limb::high;
 use natural::limb::low;
 
 // Multiplies the number in the first n limbs by f and adds `more`; returns how many limbs the result takes: n, or one or two
-// more, of which the top one is not 0.
+// more, of which the top one is not 0. The limbs above them stay.
 pub fn grow(limbs: &mut [u32], n: usize, f: u64, more: u64) -> usize
     requires { ⌜ n + 2 ≤ length (now limbs) ⌝ }
-    ensures { λ r. ⌜ (value (take r (now (limbs .exit))) ≡ value (take n (now (limbs .entry))) * f + more) × (n ≤ r) × (r ≤ n + 2) × (n < r → 0 < getD (now (limbs .exit)) (r - 1) 0) ⌝ }
+    ensures { λ r. ⌜ (value (take r (now (limbs .exit))) ≡ value (take n (now (limbs .entry))) * f + more) × (n ≤ r) × (r ≤ n + 2) × (n < r → 0 < getD (now (limbs .exit)) (r - 1) 0) × (drop r (now (limbs .exit)) ≡ drop r (now (limbs .entry))) ⌝ }
 {
     let carry = times_add(&mut limbs[..n], f, more);
     if carry == 0 {
@@ -25,10 +25,11 @@ pub fn grow(limbs: &mut [u32], n: usize, f: u64, more: u64) -> usize
     n + 2
 }
 
-// Multiplies the number in the first `start` limbs by the factors; returns how many limbs the product takes.
+// Multiplies the number in the first `start` limbs by the factors; returns how many limbs the product takes: `start`, or
+// more, of which the top one is not 0 if no factor is. The limbs above them stay.
 pub fn times_all(limbs: &mut [u32], start: usize, factors: &[u64]) -> usize
     requires { ⌜ 2 * length (now factors) + start ≤ length (now limbs) ⌝ }
-    ensures { λ r. ⌜ (value (take r (now (limbs .exit))) ≡ value (take start (now (limbs .entry))) * productOf (now (factors .entry))) × (r ≤ start + 2 * length (now (factors .entry))) × (r ≤ length (now (limbs .entry))) ⌝ }
+    ensures { λ r. ⌜ (value (take r (now (limbs .exit))) ≡ value (take start (now (limbs .entry))) * productOf (now (factors .entry))) × (r ≤ start + 2 * length (now (factors .entry))) × (r ≤ length (now (limbs .entry))) × (start ≤ r) × (start < r → 0 < productOf (now (factors .entry)) → 0 < getD (now (limbs .exit)) (r - 1) 0) × (drop r (now (limbs .exit)) ≡ drop r (now (limbs .entry))) ⌝ }
 {
     let mut n = start;
     let mut i = 0;

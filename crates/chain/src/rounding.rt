@@ -1,7 +1,7 @@
 // A number over 2 ^ k * d, rounded up once.
 ghost use mathlib.Core.Path.{_≡_};
 ghost use Prim.Native.Nat.{_+_, _*_, _/_, _%_, _^_, _≤_, _<_, min};
-ghost use lib.ListN.{length};
+ghost use lib.ListN.{length, take, drop};
 ghost use Rattle.natural.specs.Value.{value};
 ghost use Rattle.natural.specs.Ceiling.{ceiling};
 use natural::arithmetic::divide;
@@ -44,20 +44,22 @@ fn divide_out(limbs: &mut [u32], d: u32) -> u32
     divide(limbs, d)
 }
 
-// The number over 2 ^ s * d, and one more where anything is left over of it or, by `below`, below it.
+// The number over 2 ^ s * d, and one more where anything is left over of it or, by `below`, below it. The limbs keep the
+// quotient rounded down.
 fn quotient_up(limbs: &mut [u32], s: u32, d: u32, below: u64) -> u64
     requires { ⌜ (s < 32) × (0 < d) × (below ≤ 1) ⌝ }
-    ensures { λ r. ⌜ r ≡ min 18446744073709551615 (value (now (limbs .entry)) / (2 ^ s * d) + min 1 (below + value (now (limbs .entry)) % (2 ^ s * d))) ⌝ }
+    ensures { λ r. ⌜ (r ≡ min 18446744073709551615 (value (now (limbs .entry)) / (2 ^ s * d) + min 1 (below + value (now (limbs .entry)) % (2 ^ s * d)))) × (value (now (limbs .exit)) ≡ value (now (limbs .entry)) / (2 ^ s * d)) ⌝ }
 {
     let a = shift_down(limbs, s);
     let b = divide_out(limbs, d);
     up(to_u64(limbs), below + wide(a) + wide(b))
 }
 
-// The number over 2 ^ k * d, rounded up; the largest u64 where that is larger.
+// The number over 2 ^ k * d, rounded up; the largest u64 where that is larger. The limbs from k / 32 on keep it rounded down,
+// and those below stay.
 pub fn round_up(limbs: &mut [u32], k: usize, d: u32) -> u64
     requires { ⌜ 0 < d ⌝ }
-    ensures { λ r. ⌜ r ≡ min 18446744073709551615 (ceiling (value (now (limbs .entry))) (2 ^ k * d)) ⌝ }
+    ensures { λ r. ⌜ (r ≡ min 18446744073709551615 (ceiling (value (now (limbs .entry))) (2 ^ k * d))) × (value (drop (k / 32) (now (limbs .exit))) ≡ value (now (limbs .entry)) / (2 ^ k * d)) × (take (k / 32) (now (limbs .exit)) ≡ take (k / 32) (now (limbs .entry))) ⌝ }
 {
     let j = k / 32;
     if limbs.len() <= j {

@@ -1,7 +1,7 @@
 // Wide starts: a number shifted up, a power of two less a number, and a sum of two terms.
 ghost use mathlib.Core.Path.{_≡_};
 ghost use Prim.Native.Nat.{_+_, _-_, _*_, _/_, _^_, _≤_, _<_, max};
-ghost use lib.ListN.{length, take, getD};
+ghost use lib.ListN.{length, take, drop, getD};
 ghost use Rattle.natural.specs.Value.{value};
 use crate::products::grow;
 use natural::arithmetic::add;
@@ -23,10 +23,10 @@ fn clear(limbs: &mut [u32])
     }
 }
 
-// Writes x * 2 ^ at; returns how many limbs that takes (GMP's mpn_lshift, of two limbs).
+// Writes x * 2 ^ at; returns how many limbs that takes (GMP's mpn_lshift, of two limbs). The limbs above them stay.
 pub fn lay(limbs: &mut [u32], x: u64, at: usize) -> usize
     requires { ⌜ at / 32 + 3 ≤ length (now limbs) ⌝ }
-    ensures { λ r. ⌜ (value (take r (now (limbs .exit))) ≡ x * 2 ^ at) × (r ≡ at / 32 + 3) ⌝ }
+    ensures { λ r. ⌜ (value (take r (now (limbs .exit))) ≡ x * 2 ^ at) × (r ≡ at / 32 + 3) × (drop r (now (limbs .exit)) ≡ drop r (now (limbs .entry))) ⌝ }
 {
     let n = at / 32;
     clear(&mut limbs[..n]);
@@ -37,10 +37,10 @@ pub fn lay(limbs: &mut [u32], x: u64, at: usize) -> usize
     n + 3
 }
 
-// Writes 2 ^ t - m; returns how many limbs are in use.
+// Writes 2 ^ t - m; returns how many limbs are in use. It works on t / 32 + 3 limbs, and those above them stay.
 pub fn complement(limbs: &mut [u32], t: usize, m: u64) -> usize
     requires { ⌜ (t / 32 + 3 ≤ length (now limbs)) × (m ≤ 2 ^ t) ⌝ }
-    ensures { λ r. ⌜ (value (take r (now (limbs .exit))) + m ≡ 2 ^ t) × (r ≤ t / 32 + 3) × (0 < r → 0 < getD (now (limbs .exit)) (r - 1) 0) ⌝ }
+    ensures { λ r. ⌜ (value (take r (now (limbs .exit))) + m ≡ 2 ^ t) × (r ≤ t / 32 + 3) × (0 < r → 0 < getD (now (limbs .exit)) (r - 1) 0) × (value (take (t / 32 + 3) (now (limbs .exit))) + m ≡ 2 ^ t) × (drop (t / 32 + 3) (now (limbs .exit)) ≡ drop (t / 32 + 3) (now (limbs .entry))) ⌝ }
 {
     let n = lay(limbs, 1, t);
     let other = [low(m), high(m)];
@@ -92,10 +92,11 @@ fn larger(a: usize, b: usize) -> usize
     a
 }
 
-// Writes a sum of two terms; returns how many limbs are in use.
+// Writes a sum of two terms; returns how many limbs are in use. It works on as many as the larger shift asks for, and those
+// above them stay.
 pub fn sum(limbs: &mut [u32], a: Term, b: Term) -> usize
     requires { ⌜ max (a .shift) (b .shift) / 32 + 5 ≤ length (now limbs) ⌝ }
-    ensures { λ r. ⌜ (value (take r (now (limbs .exit))) ≡ a .weight * a .significand * 2 ^ a .shift + b .weight * b .significand * 2 ^ b .shift) × (r ≤ max (a .shift) (b .shift) / 32 + 5) × (0 < r → 0 < getD (now (limbs .exit)) (r - 1) 0) ⌝ }
+    ensures { λ r. ⌜ (value (take r (now (limbs .exit))) ≡ a .weight * a .significand * 2 ^ a .shift + b .weight * b .significand * 2 ^ b .shift) × (r ≤ max (a .shift) (b .shift) / 32 + 5) × (0 < r → 0 < getD (now (limbs .exit)) (r - 1) 0) × (value (take (max (a .shift) (b .shift) / 32 + 5) (now (limbs .exit))) ≡ a .weight * a .significand * 2 ^ a .shift + b .weight * b .significand * 2 ^ b .shift) × (drop (max (a .shift) (b .shift) / 32 + 5) (now (limbs .exit)) ≡ drop (max (a .shift) (b .shift) / 32 + 5) (now (limbs .entry))) ⌝ }
 {
     let n = larger(a.shift, b.shift) / 32 + 5;
     lay_sum(&mut limbs[..n], a, b);

@@ -6,6 +6,7 @@
 --   part-from, value-front, value-back               a part of a slice, and the slice after a call changed that part
 --   store-two, store-three                           a number of two limbs, or a limb and two, stored
 --   value-below, value-small                         sizes
+--   value-injective                                  what contracts on `value` say of each limb
 -- What a loop does to a value is in Carry, Division and Held.
 use mathlib.Core.Path.{_≡_, refl, sym, ap, _∙_}
 use mathlib.Core.List.{List, [], _∷_, _++_}
@@ -155,3 +156,17 @@ pub value-small : (l : List ℕ) (k : ℕ) → ((i : ℕ) → getD l i 0 < 42949
 value-small l k h n =
     let e : value (take (k / 32) l) ≡ value l = ap value (take-all (k / 32) l n) in
     omega (arith, value-below l (k / 32) h, pow-mono {i = 32 * (k / 32)} {j = k} (omega arith))
+
+-- Limbs as many, with the same value, are the same limbs: a contract on the value of a slice says every limb of it.
+pub value-injective : (l m : List ℕ) → length l ≡ length m → ((i : ℕ) → getD l i 0 < 4294967296) → ((i : ℕ) → getD m i 0 < 4294967296) → value l ≡ value m → l ≡ m
+unfolding value
+value-injective [] [] n f g e = refl
+value-injective [] (y ∷ m) n f g e = absurd (omega arith)
+value-injective (x ∷ l) [] n f g e = absurd (omega arith)
+value-injective (x ∷ l) (y ∷ m) n f g e =
+    let a : x < 4294967296 = f 0 in
+    let b : y < 4294967296 = g 0 in
+    let h : x ≡ y = omega arith in
+    let t : value l ≡ value m = omega arith in
+    let r : l ≡ m = value-injective l m (omega arith) (λ i. f (suc i)) (λ i. g (suc i)) t in
+    (λ j. h j ∷ r j)

@@ -13,7 +13,7 @@ returns c =
     let r = c .before .before in
     let m = r .before .before .before .before in
     let s = m .before .before .before .before in
-    r .round-up .ensures
+    r .round-up .ensures .0
     ∙ ap (λ (n : ℕ). min 18446744073709551615 n)
     (rounded (s .args .quantities .now) _ (s .args .depth) _ (m .multiply .result .depth) (s .args .d) (s .pre .3) (m .multiply .ensures .0))
 

@@ -1,12 +1,14 @@
 -- Nothing is borrowed, since m is at most 2 ^ t.
 use mathlib.Core.Path.{sym, ap, _∙_}
 use mathlib.Core.List.{_++_}
-use lib.ListN.{drop}
-use Prim.Native.Nat.{ℕ, _+_}
+use lib.ListN.{take, drop}
+use Prim.Native.Nat.{ℕ, _+_, _/_}
 use borrow.Author.Needs.{needs}
 use native.Mathlib.Omega.{arith}
 use lib.Seq.{length-take-le, length-front}
+use Rattle.natural.specs.Value.{value}
 use Rattle.natural.proofs.Held.{use-part}
+use Rattle.chain.proofs.Product.{front-stays, stays-above}
 use Rattle.chain.proofs.Start.{complement-done}
 use Rattle.chain.proofs.starts.complement.Statement.{statement}
 use Rattle.chain.proofs.starts.complement.Tie as tie
@@ -29,8 +31,13 @@ returns c =
     let n = y .lay .result in
     let k = length-front l e n (s .subtract .kept .0) in
     let u = use-part (e ++ drop n l) n (c .in-use .result) (omega arith) (c .in-use .ensures) in
-    let d = complement-done l e n (a .m) (a .t) (s .subtract .result) _ _ (omega arith) (s .subtract .kept .0) (y .lay .ensures .0) (s .subtract .ensures .0) (h .before .low .ensures) (h .high .ensures) (omega arith) (λ i. c .before .before .slice-known3 .given i .fits) in
-    (ap (λ (z : ℕ). z + a .m) (u .0) ∙ d, omega arith, u .2)
+    let d = complement-done l e n (a .m) (a .t) (s .subtract .result) _ _ (omega arith) (s .subtract .kept .0) (y .lay .ensures .0) (s .subtract .ensures .0) (h .before .low .ensures) (h .high .ensures) (omega arith) (λ i. c .before .before .slice-known3 .given i .fits) in (
+      ap (λ (z : ℕ). z + a .m) (u .0) ∙ d,
+      omega arith,
+      u .2,
+      ap (λ (z : ℕ). value (take z (e ++ drop n l)) + a .m) (sym (y .lay .ensures .1)) ∙ d,
+      front-stays l e n (a .t / 32 + 3) (omega arith) (s .subtract .kept .0) (omega arith) ∙ stays-above l (a .limbs .now) n (a .t / 32 + 3) (omega arith) (y .lay .ensures .2),
+    )
 
 pub complement-spec : {M : Type 1} → statement M
 complement-spec =

@@ -6,7 +6,7 @@ use borrow.Author.Needs.{needs}
 use native.Mathlib.Omega.{arith}
 use lib.ListN.{length, drop, length-set}
 use lib.Seq.{length-take-le, length-front}
-use Rattle.chain.proofs.Start.{lay-done}
+use Rattle.chain.proofs.Start.{lay-done, lay-stays}
 use Rattle.chain.proofs.starts.lay.Statement.{statement}
 use Rattle.chain.proofs.starts.lay.Tie as tie
 
@@ -19,7 +19,7 @@ returns c =
     let m = c .before .before in
     let e = m .before .before .before .before in
     let s = e .before .before .before in
-    (lay-done (s .args .limbs .now) (e .clear .last .0) _ (s .args .at) _ _ _ _ _ (s .pre) (e .clear .kept .0) (e .clear .ensures) (m .before .power .ensures) (m .multiply-step .ensures) (c .before .low .ensures) (c .high .ensures), refl)
+    (lay-done (s .args .limbs .now) (e .clear .last .0) _ (s .args .at) _ _ _ _ _ (s .pre) (e .clear .kept .0) (e .clear .ensures) (m .before .power .ensures) (m .multiply-step .ensures) (c .before .low .ensures) (c .high .ensures), refl, lay-stays (s .args .limbs .now) (e .clear .last .0) (s .args .at / 32) _ _ _ (s .pre) (e .clear .kept .0))
 
 pub lay-spec : {M : Type 1} → statement M
 lay-spec =

@@ -1,13 +1,15 @@
 -- The larger shift says how many limbs are worked on.
-use mathlib.Core.Path.{sym, _∙_}
+use mathlib.Core.Path.{sym, ap, _∙_}
 use mathlib.Core.List.{_++_}
-use Prim.Native.Nat.{_+_, _/_}
+use Prim.Native.Nat.{ℕ, _+_, _/_}
 use borrow.Author.Needs.{needs}
 use native.Mathlib.Omega.{arith}
-use lib.ListN.{drop}
+use lib.ListN.{take, drop}
 use lib.Seq.{length-take-le, length-front}
+use Rattle.natural.specs.Value.{value}
 use Rattle.natural.proofs.Value.{value-front}
 use Rattle.natural.proofs.Held.{use-part}
+use Rattle.chain.proofs.Product.{front-stays}
 use Rattle.chain.proofs.starts.sum.Statement.{statement}
 use Rattle.chain.proofs.starts.sum.Tie as tie
 
@@ -27,7 +29,14 @@ returns c =
     let n = m .larger .result / 32 + 5 in
     let k = length-front l e n (s .lay-sum .kept .0) in
     let u = use-part (e ++ drop n l) n (c .in-use .result) (omega arith) (c .in-use .ensures) in
-    (u .0 ∙ value-front l e n (omega arith) (s .lay-sum .kept .0) .0 ∙ s .lay-sum .ensures, omega arith, u .2)
+    let f = value-front l e n (omega arith) (s .lay-sum .kept .0) .0 ∙ s .lay-sum .ensures in
+    let o = ap (λ (z : ℕ). z / 32 + 5) (m .larger .ensures) in (
+      u .0 ∙ f,
+      omega arith,
+      u .2,
+      ap (λ (z : ℕ). value (take z (e ++ drop n l))) (sym o) ∙ f,
+      ap (λ (z : ℕ). drop z (e ++ drop n l)) (sym o) ∙ front-stays l e n n (omega arith) (s .lay-sum .kept .0) (omega arith) ∙ ap (λ (z : ℕ). drop z l) o,
+    )
 
 pub sum-spec : {M : Type 1} → statement M
 sum-spec =
