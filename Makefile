@@ -1,5 +1,5 @@
-# make test     everything: every proof, must-fail edit and program from nothing, then the C interface and the host side
-#               against an independent model; the last line is the toolchain's 'N passed, M failed'
+# make test     everything: the C interface and the host side against an independent model, then every proof, must-fail edit
+#               and program from nothing; the last line is the toolchain's 'N passed, M failed'
 # make check    the proofs, of what changed since the last run only, and the programs
 # make lib      the static library target/staticlib/libcsorvelin.a, proved before it is built
 # make run      builds the library and the command, and shows the main job on an example
@@ -16,8 +16,9 @@ HOST = --quiet --offline --release --manifest-path host/Cargo.toml
 COMMAND = ../../host/target/release/csorvelin
 DEMO = target/demo
 
-test:
-	@tests/gate
+test: trace c-test host-test
+	@rt fmt --check
+	@rt ci
 
 check:
 	@rt check
