@@ -44,6 +44,8 @@ workedHistory =
     -- nothing is held
     ∷ (show 0 tells shown 24 [])
     ∷ (worst 1 tells named 24 0)
+    -- no compartment is told before no record
+    ∷ (worst 5 tells named 12 0)
     ∷ (file (sanitary 7 0) (four 76923077 0 0 0) tells filed 0 0 112)
     -- P10: another b is the same filing
     ∷ (file (sanitary 7 unit) (four 0 0 0 0) tells filed 22 0 112)
@@ -55,9 +57,10 @@ workedHistory =
     ∷ (file (formulation 125 7 quarter eighth) (four 62500000 0 31250000 15625000) tells filed 22 0 304)
     ∷ (file (formulation 250 8 eighth quarter) (four 31250000 0 7812500 15625000) tells filed 0 3 400)
     ∷ (file rain (four 0 1498287672 0 0) tells filed 0 4 496)
-    -- full; and what is held is told before what is full
+    -- full; what is held is told before that, and what is out of range before both
     ∷ (file (sanitary 9 0) (four 76923077 0 0 0) tells filed 23 0 496)
     ∷ (file (sanitary 7 0) (four 76923077 0 0 0) tells filed 22 0 496)
+    ∷ (file (sanitary 0 0) (four 0 0 0 0) tells filed 7 0 496)
     ∷ (show 0 tells shown 0 (recordWith 7))
     ∷ (show 5 tells shown 24 [])
     -- STP: the first of two equals; each compartment names another record
