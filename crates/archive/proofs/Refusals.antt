@@ -1,11 +1,11 @@
 -- Laws of the refusals of this crate's calls. The laws of any list of conditions are scenario's.
--- `compartment-within` (12 does not hold); `accepted-refused` (what stands beside a refusal); `full-exactly` (23 of a filing, in plain numbers).
+-- `compartment-within` (12 does not hold); `accepted-refused` (what stands beside a refusal); `full-exactly`, `full-short`, `full-most` (23 of a filing, in plain numbers).
 -- A filing's list begins with the case's own: `behind-case`, `file-refusal-is`; `both-zero`, `case-refused`.
 -- That a refusal is the first that holds is in `history`.
 use mathlib.Core.Path.{_≡_, refl}
-use mathlib.Core.Bool.{false, cond}
+use mathlib.Core.Bool.{Bool, true, false, cond}
 use mathlib.Core.List.{List, _++_}
-use Prim.Native.Nat.{ℕ, zero, suc, _+_, _-_, _≤_}
+use Prim.Native.Nat.{ℕ, zero, suc, _+_, _-_, _≤_, _<_}
 use native.Mathlib.Omega.{arith}
 use borrow.Author.Tests.{ltb-false, eqb-false, le-ltb, ne-eqb}
 use lib.Dec.{ltb, eqb}
@@ -39,6 +39,19 @@ then-free size used n h o = rw (le-ltb (size - used) recordSize (omega arith), n
 
 pub full-exactly : (size used n : ℕ) → (full size used n ≡ false → (used + 96 ≤ size) × (n ≡ 1000000 → ⊥)) × (used + 96 ≤ size → (n ≡ 1000000 → ⊥) → full size used n ≡ false)
 full-exactly size used n = (free-then size used n, then-free size used n)
+
+is-full : (size used n : ℕ) → (full size used n ≡ false → ⊥) → full size used n ≡ true
+is-full size used n h = go (full size used n) refl
+  where
+    go : (t : Bool) → full size used n ≡ t → t ≡ true
+    go true e = refl
+    go false e = absurd (h e)
+
+pub full-short : (size used n : ℕ) → size < used + 96 → full size used n ≡ true
+full-short size used n h = is-full size used n (λ e. omega (arith, full-exactly size used n .0 e .0))
+
+pub full-most : (size used n : ℕ) → n ≡ 1000000 → full size used n ≡ true
+full-most size used n h = is-full size used n (λ e. full-exactly size used n .0 e .1 h)
 
 -- ── file
 

@@ -47,7 +47,10 @@ fn file_refusal(archive: &[u8], used: u64, case: &[u8], refusal: u32) -> u32
     if search::is_held(archive, n, case) {
         return 22;
     }
-    if (archive.len() as u64 - used < records::RECORD_SIZE as u64) | (n == records::MOST_RECORDS) {
+    if archive.len() as u64 - used < records::RECORD_SIZE as u64 {
+        return 23;
+    }
+    if n == records::MOST_RECORDS {
         return 23;
     }
     0

@@ -21,10 +21,14 @@ use Rattle.archive.specs.Archive.{emptyRefusals, emptyRefusal, emptying, emptyB
 use Rattle.archive.specs.Answers.{ofEmptied, ofFiling, ofHighest, refusalIn}
 use Rattle.archive.proofs.Refusals.{accepted-refused}
 use borrow.Fn.Kinds as kinds
+use Rattle.scenario.proofs.decode.Kinds as decode-kinds
+use Rattle.scenario.proofs.decode.Reads as decode-reads
 use Rattle.emission.proofs.work_out.Kinds as work-out-kinds
 use Rattle.emission.proofs.work_out.Reads as work-out-reads
 use Rattle.emission.proofs.work_out.Met as work-out-met
 use Rattle.emission.proofs.work_out.Statement as work-out-statement
+use Rattle.emission.proofs.work_out_into.Kinds as work-out-into-kinds
+use Rattle.emission.proofs.work_out_into.Reads as work-out-into-reads
 use Rattle.archive.proofs.empty.Kinds as empty-kinds
 use Rattle.archive.proofs.empty.Reads as empty-reads
 use Rattle.archive.proofs.empty.Met as empty-met
@@ -159,8 +163,10 @@ met = (empty-met.met, file-met.met, show-met.met, show-refusal-met.met, worst-me
 
 -- ── nothing is asked of a caller, so that every call can be made
 
+-- Of `print` and of the C interface the crates `listing` and `csorvelin` say the same.
 pub asks-nothing : (κs : Lfts 1) (κs₂ : Lfts 2) (e : kinds.Dens κs empty-kinds.ps) (f : kinds.Dens κs₂ file-kinds.ps) (s : kinds.Dens κs show-kinds.ps)
     (t : kinds.Dens κs show-refusal-kinds.ps) (w : kinds.Dens κs worst-kinds.ps) (g : kinds.Dens κs figures-of-kinds.ps) (o : kinds.Dens κs work-out-kinds.ps)
+    (i : kinds.Dens κs₂ work-out-into-kinds.ps) (d : kinds.Dens κs decode-kinds.ps)
     → empty-reads.Asked κs e
     × file-reads.Asked κs₂ f
     × show-reads.Asked κs s
@@ -168,4 +174,6 @@ pub asks-nothing : (κs : Lfts 1) (κs₂ : Lfts 2) (e : kinds.Dens κs empty-ki
     × worst-reads.Asked κs w
     × figures-of-reads.Asked κs g
     × work-out-reads.Asked κs o
-asks-nothing κs κs₂ e f s t w g o = (tt, tt, tt, tt, tt, tt, tt)
+    × work-out-into-reads.Asked κs₂ i
+    × decode-reads.Asked κs d
+asks-nothing κs κs₂ e f s t w g o i d = (tt, tt, tt, tt, tt, tt, tt, tt, tt)

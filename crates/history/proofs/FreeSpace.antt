@@ -1,7 +1,7 @@
 -- Free space in plain numbers: when a case within the ranges that is not held is filed, and when it meets 23.
 -- `file-exactly`, of one call on any archive; `filed-exactly`, of a filing after any history; `first-filing`, of the first one behind an empty.
-use mathlib.Core.Path.{_≡_, refl, _∙_}
-use mathlib.Core.Bool.{Bool, true, false, cond}
+use mathlib.Core.Path.{_≡_, _∙_}
+use mathlib.Core.Bool.{false, cond}
 use mathlib.Core.List.{List, [], _∷_}
 use Prim.Native.Nat.{ℕ, _+_, _*_, _≤_, _<_}
 use native.Mathlib.Nat.{not-suc-le-zero}
@@ -20,7 +20,7 @@ use Rattle.archive.specs.Conditions.{full}
 use Rattle.archive.specs.Archive.{emptyRefusals, fileRefusal, filing}
 use Rattle.archive.specs.Answers.{Answer, emptied, filed}
 use Rattle.archive.specs.declared.Filing.the-variants.{Filed, Refused}
-use Rattle.archive.proofs.Refusals.{full-exactly, file-refusal-is}
+use Rattle.archive.proofs.Refusals.{full-exactly, full-short, full-most, file-refusal-is}
 use Rattle.history.specs.Calls.{FileCall}
 use Rattle.history.specs.Ledger.{Request, empty, file, judgedFile, answer, lines}
 use Rattle.history.specs.History.{EmptyTurn, FileTurn, Run, next, History, BySpace}
@@ -28,19 +28,6 @@ use Rattle.history.proofs.Turns.{Stands, kept, first-stands, emptying-a
 use Rattle.history.proofs.Demand3.{history-followed}
 
 -- ── full, of numbers
-
-is-full : (size u n : ℕ) → (full size u n ≡ false → ⊥) → full size u n ≡ true
-is-full size u n h = go (full size u n) refl
-  where
-    go : (t : Bool) → full size u n ≡ t → t ≡ true
-    go true e = refl
-    go false e = absurd (h e)
-
-full-short : (size u n : ℕ) → size < u + 96 → full size u n ≡ true
-full-short size u n h = is-full size u n (λ e. omega (arith, full-exactly size u n .0 e .0))
-
-full-most : (size u n : ℕ) → n ≡ 1000000 → full size u n ≡ true
-full-most size u n h = is-full size u n (λ e. full-exactly size u n .0 e .1 h)
 
 free : (size u n : ℕ) → u + 96 ≤ size → n < 1000000 → full size u n ≡ false
 free size u n h l = full-exactly size u n .1 h (λ e. omega arith)

@@ -1,11 +1,10 @@
 -- Demand 3 over every history of calls of the C interface: `c-demand3`. Each such call is a turn: `c-turn`.
--- The used length handed on is the one in the caller's variable: `c-handed-empty`, `c-handed-file`. So that it says something: `c-history-can`, `c-met`, `c-asks-nothing`.
+-- The used length handed on is the one in the caller's variable: `c-handed-empty`, `c-handed-file`. So that it says something: `c-history-can` and
+-- `c-met`; that the functions ask nothing of their caller is `asks-nothing` of crate csorvelin.
 use mathlib.Core.Path.{_≡_, refl, sym, ap, _∙_}
 use mathlib.Core.List.{List, []}
 use Prim.Native.Nat.{ℕ, zero, suc, _+_, _*_, _≤_}
 use base.Fml.{Lft}
-use borrow.Fn.Kinds as kinds
-use contract.Lifetimes.{Lfts}
 use denote.Ref.{now}
 use lib.ListN.{length}
 use Rattle.scenario.specs.Case.{refusalOf}
@@ -17,25 +16,15 @@ use Rattle.records.specs.Buffer.{countAt, linesIn}
 use Rattle.archive.specs.Conditions.{accepted}
 use Rattle.archive.specs.Archive.{emptyRefusal, emptying, emptyBytes, fileRefusal, filing, fileBytes, showRefusal, showPart, worstRefusal, naming}
 use Rattle.csorvelin.specs.Place.{startShown, lengthShown}
-use Rattle.archive.specs.Answers.{Answer, emptied, filed, shown, named, ofEmptied, ofFiling, ofHighest, handed}
-use Rattle.csorvelin.proofs.csorvelin_work_out.Kinds as work-out-kinds
-use Rattle.csorvelin.proofs.csorvelin_work_out.Reads as work-out-reads
+use Rattle.archive.specs.Answers.{Answer, shown, ofEmptied, ofFiling, ofHighest, handed}
 use Rattle.csorvelin.proofs.csorvelin_work_out.Met as work-out-met
 use Rattle.csorvelin.proofs.csorvelin_work_out.Statement as work-out-statement
-use Rattle.csorvelin.proofs.csorvelin_empty.Kinds as empty-kinds
-use Rattle.csorvelin.proofs.csorvelin_empty.Reads as empty-reads
 use Rattle.csorvelin.proofs.csorvelin_empty.Met as empty-met
 use Rattle.csorvelin.proofs.csorvelin_empty.Statement as empty-statement
-use Rattle.csorvelin.proofs.csorvelin_file.Kinds as file-kinds
-use Rattle.csorvelin.proofs.csorvelin_file.Reads as file-reads
 use Rattle.csorvelin.proofs.csorvelin_file.Met as file-met
 use Rattle.csorvelin.proofs.csorvelin_file.Statement as file-statement
-use Rattle.csorvelin.proofs.csorvelin_show.Kinds as show-kinds
-use Rattle.csorvelin.proofs.csorvelin_show.Reads as show-reads
 use Rattle.csorvelin.proofs.csorvelin_show.Met as show-met
 use Rattle.csorvelin.proofs.csorvelin_show.Statement as show-statement
-use Rattle.csorvelin.proofs.csorvelin_worst.Kinds as worst-kinds
-use Rattle.csorvelin.proofs.csorvelin_worst.Reads as worst-reads
 use Rattle.csorvelin.proofs.csorvelin_worst.Met as worst-met
 use Rattle.csorvelin.proofs.csorvelin_worst.Statement as worst-statement
 use Rattle.history.specs.Ledger.{Request, empty, file, show, worst}
@@ -206,7 +195,7 @@ module _ (κ : Lft) where
   pub c-history-can : (cs : List Request) → AllFed cs → (b : List ℕ) → 16 ≤ length b → HistoryOf CTurn b cs
   c-history-can cs d b h = history-by CTurn c-turn-can cs d b (c-can-empty b) h
 
--- ── the functions meet the contracts that a call goes by, and ask nothing of a caller
+-- ── the functions meet the contracts that a call goes by
 
 pub c-met : {M : Type 1}
     → work-out-statement.statement M
@@ -215,12 +204,3 @@ pub c-met : {M : Type 1}
     × show-statement.statement M
     × worst-statement.statement M
 c-met = (work-out-met.met, empty-met.met, file-met.met, show-met.met, worst-met.met)
-
-pub c-asks-nothing : (κs₂ : Lfts 2) (κs₃ : Lfts 3) (κs₄ : Lfts 4) (o : kinds.Dens κs₂ work-out-kinds.ps) (e : kinds.Dens κs₂ empty-kinds.ps) (f : kinds.Dens κs₄ file-kinds.ps)
-    (s : kinds.Dens κs₃ show-kinds.ps) (w : kinds.Dens κs₂ worst-kinds.ps)
-    → work-out-reads.Asked κs₂ o
-    × empty-reads.Asked κs₂ e
-    × file-reads.Asked κs₄ f
-    × show-reads.Asked κs₃ s
-    × worst-reads.Asked κs₂ w
-c-asks-nothing κs₂ κs₃ κs₄ o e f s w = (tt, tt, tt, tt, tt)

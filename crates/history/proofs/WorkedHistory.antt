@@ -1,7 +1,8 @@
--- By computation: `worked-history`, the ledger's answers to the calls of the table are those that it prints; and `worked-fed`, the figures
--- that it feeds are those of the cases, with route 2, air, soil, a value rounded up and a value of zero among them.
+-- By computation: `worked-history`, the ledger's answers to the calls of the table are those that it prints; `worked-fed`, the figures
+-- that it feeds are those of the cases, with route 2, air, soil, a value rounded up and a value of zero among them; `worked-archive`, the archive
+-- of the lines that the ledger then has, in plain bytes; `demand3` says that the buffer holds it.
 use mathlib.Core.Path.{_≡_, refl}
-use mathlib.Core.List.{List, [], map}
+use mathlib.Core.List.{[], map}
 use lib.Ieee.{ofBits, toBits, add, le}
 use Rattle.binary64.specs.Bytes.{bytesOf, numberOf, numberAt}
 use Rattle.binary64.specs.Pattern.{isUnsignedFinite}
@@ -14,13 +15,12 @@ use Rattle.product.specs.Chain.{chain}
 use Rattle.equations.specs.Rows.{cities, cityAt, hygienes, hygieneAt}
 use Rattle.equations.specs.Equations.{total, toWater, toAir, toSoil}
 use Rattle.emission.specs.Figures.{exactValues, figuresOf}
-use Rattle.records.specs.Layout.{figureBytes, recordOf}
+use Rattle.records.specs.Layout.{figureBytes, recordOf, records, trailer, archiveOf, recordSize, edition}
 use Rattle.records.specs.Lines.{sameFiling, held, figure, highest, firstWith, worstOf}
 use Rattle.archive.specs.Conditions.{full}
-use Rattle.archive.specs.Answers.{Answer}
-use Rattle.history.specs.Ledger.{judgedEmpty, judgedFile, judgedShow, judgedWorst, answer, after, answers}
+use Rattle.history.specs.Ledger.{judgedEmpty, judgedFile, judgedShow, judgedWorst, answer, after, answers, lines}
 use Rattle.history.specs.History.{AllFed}
-use Rattle.history.specs.WorkedHistory.{Told, workedHistory}
+use Rattle.history.specs.WorkedHistory.{Told, workedHistory, workedArchive}
 
 pub worked-history : answers 496 [] (map (λ (t : Told). t .call) workedHistory) ≡ map (λ (t : Told). t .answer) workedHistory
 unfolding workedHistory answers answer after judgedEmpty judgedFile judgedShow judgedWorst sameFiling held full figure highest firstWith worstOf figureBytes recordOf caseBytes bytesOf numberOf numberAt kinds kindAt listingsAt notSixtyFour kindUnknown rowUnknown routeNotAllowed userNotAllowed countNotAllowed notNumber isUnsignedFinite notZeroBytes overLimit whole wholeAt sumOver sumWithin add le ofBits
@@ -34,8 +34,12 @@ a and b = (a, b)
 pub worked-fed : AllFed (map (λ (t : Told). t .call) workedHistory)
 unfolding workedHistory caseBytes bytesOf figuresOf exactValues toWater toAir toSoil chain total cities cityAt hygienes hygieneAt caseOfPatterns caseWith headOf numberAt numberOf refusalOf notSixtyFour kindUnknown rowUnknown routeNotAllowed userNotAllowed countNotAllowed notNumber notZeroBytes overLimit sumWithin sumOver kinds kindAt listingsAt isUnsignedFinite whole wholeAt add le ofBits toBits ceiling
 worked-fed =
-    tt and tt and tt
-    and (λ e. refl) and (λ e. refl) and (λ e. refl) and (λ e. refl) and (λ e. refl) and (λ e. refl) and (λ e. refl) and (λ e. refl) and (λ e. refl) and (λ e. refl)
+    tt and tt and tt and tt
+    and (λ e. refl) and (λ e. refl) and (λ e. refl) and (λ e. refl) and (λ e. refl) and (λ e. refl) and (λ e. refl) and (λ e. refl) and (λ e. refl) and (λ e. refl) and (λ e. refl)
     and tt and tt and tt and tt and tt and tt and tt and tt and tt and tt
-    and (λ e. refl)
+    and (λ e. refl) and (λ e. refl)
     and tt
+
+pub worked-archive : archiveOf recordSize edition (lines 496 [] (map (λ (t : Told). t .call) workedHistory)) ≡ workedArchive
+unfolding workedHistory lines after judgedEmpty judgedFile sameFiling held full figureBytes recordOf records trailer archiveOf caseBytes bytesOf numberOf numberAt kinds kindAt listingsAt notSixtyFour kindUnknown rowUnknown routeNotAllowed userNotAllowed countNotAllowed notNumber isUnsignedFinite notZeroBytes overLimit whole wholeAt sumOver sumWithin add le ofBits
+worked-archive = refl

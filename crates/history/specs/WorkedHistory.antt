@@ -1,6 +1,7 @@
--- A history in plain numbers: requests on a buffer of 496 bytes, which holds five records, and what the ledger answers. One theorem covers it (`worked-history`).
--- P1, P2, P8 and P10 are the pencil cases of paper 01, P8 with 1/8 tonne; the figures fed are those that work out gives (`worked-fed`).
-use mathlib.Core.List.{List, [], _∷_}
+-- A history in plain numbers: requests on a buffer of 496 bytes, which holds five records, and what the ledger answers: `worked-history`.
+-- What archive it leaves, byte by byte: `worked-archive`.
+-- P1, P2, P8 and P10 are the pencil cases of paper 01, P8 with 1/8 tonne; the figures fed are those that work out gives: `worked-fed`.
+use mathlib.Core.List.{List, [], _∷_, _++_}
 use Prim.Native.Nat.{ℕ}
 use Rattle.scenario.specs.Builder.{caseBytes, hundred, unit, half, quarter, eighth, sixty-fourth}
 use Rattle.archive.specs.Answers.{Answer, emptied, filed, shown, named}
@@ -27,10 +28,10 @@ formulation t dossier air soil = caseBytes 5 0 1 0 t dossier eighth eighth half 
 abbrev four : ℕ → ℕ → ℕ → ℕ → List ℕ
 four s w a g = s ∷ w ∷ a ∷ g ∷ []
 
--- P1's record, byte by byte
-abbrev pub firstRecord : List ℕ
-firstRecord =
-    4 ∷ 1 ∷ 1 ∷ 0 ∷ 0 ∷ 0 ∷ 0 ∷ 0 ∷ 7 ∷ 0 ∷ 0 ∷ 0 ∷ 0 ∷ 0 ∷ 0 ∷ 0
+-- P1's record with a dossier number under 256, byte by byte
+abbrev pub recordWith : ℕ → List ℕ
+recordWith dossier =
+    4 ∷ 1 ∷ 1 ∷ 0 ∷ 0 ∷ 0 ∷ 0 ∷ 0 ∷ dossier ∷ 0 ∷ 0 ∷ 0 ∷ 0 ∷ 0 ∷ 0 ∷ 0
     ∷ 0 ∷ 0 ∷ 0 ∷ 0 ∷ 0 ∷ 0 ∷ 0x59 ∷ 0x40 ∷ 0 ∷ 0 ∷ 0 ∷ 0 ∷ 0 ∷ 0 ∷ 0 ∷ 0
     ∷ 0 ∷ 0 ∷ 0 ∷ 0 ∷ 0 ∷ 0 ∷ 0xf0 ∷ 0x3f ∷ 0 ∷ 0 ∷ 0 ∷ 0 ∷ 0 ∷ 0 ∷ 0 ∷ 0
     ∷ 0 ∷ 0 ∷ 0 ∷ 0 ∷ 0 ∷ 0 ∷ 0 ∷ 0 ∷ 0 ∷ 0 ∷ 0 ∷ 0 ∷ 0 ∷ 0 ∷ 0 ∷ 0
@@ -43,6 +44,8 @@ workedHistory =
     -- nothing is held
     ∷ (show 0 tells shown 24 [])
     ∷ (worst 1 tells named 24 0)
+    -- no compartment is told before no record
+    ∷ (worst 5 tells named 12 0)
     ∷ (file (sanitary 7 0) (four 76923077 0 0 0) tells filed 0 0 112)
     -- P10: another b is the same filing
     ∷ (file (sanitary 7 unit) (four 0 0 0 0) tells filed 22 0 112)
@@ -54,10 +57,11 @@ workedHistory =
     ∷ (file (formulation 125 7 quarter eighth) (four 62500000 0 31250000 15625000) tells filed 22 0 304)
     ∷ (file (formulation 250 8 eighth quarter) (four 31250000 0 7812500 15625000) tells filed 0 3 400)
     ∷ (file rain (four 0 1498287672 0 0) tells filed 0 4 496)
-    -- full; and what is held is told before what is full
+    -- full; what is held is told before that, and what is out of range before both
     ∷ (file (sanitary 9 0) (four 76923077 0 0 0) tells filed 23 0 496)
     ∷ (file (sanitary 7 0) (four 76923077 0 0 0) tells filed 22 0 496)
-    ∷ (show 0 tells shown 0 firstRecord)
+    ∷ (file (sanitary 0 0) (four 0 0 0 0) tells filed 7 0 496)
+    ∷ (show 0 tells shown 0 (recordWith 7))
     ∷ (show 5 tells shown 24 [])
     -- STP: the first of two equals; each compartment names another record
     ∷ (worst 1 tells named 0 0)
@@ -69,4 +73,9 @@ workedHistory =
     ∷ (empty tells emptied 0 16)
     ∷ (show 0 tells shown 24 [])
     ∷ (file (sanitary 7 0) (four 76923077 0 0 0) tells filed 0 0 112)
+    ∷ (file (sanitary 9 0) (four 76923077 0 0 0) tells filed 0 1 208)
     ∷ []
+
+-- The archive that it leaves, byte by byte: two records, and a trailer that points 192 bytes back, counts 2 and is of edition 1.
+abbrev pub workedArchive : List ℕ
+workedArchive = recordWith 7 ++ recordWith 9 ++ (192 ∷ 0 ∷ 0 ∷ 0 ∷ 0 ∷ 0 ∷ 0 ∷ 0 ∷ 2 ∷ 0 ∷ 0 ∷ 0 ∷ 1 ∷ 0 ∷ 0 ∷ 0 ∷ [])

@@ -1,7 +1,8 @@
--- Laws that this crate's proofs and the crates above cite.
+-- Laws that this crate's proofs and the crates above cite, and what it asks of a caller.
 pub mod Digits
 pub mod Stores
 pub mod Columns
 pub mod RecordLines
 pub mod Whole
 pub mod Example
+pub mod AsksNothing

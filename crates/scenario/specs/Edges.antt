@@ -1,8 +1,8 @@
--- The edges that paper 01 prints, as whole cases with their refusals, 0 for none.
+-- The edges that paper 01 prints, and the ends of what each kind allows, as whole cases with their refusals, 0 for none.
 -- Paper 01, 'Pencil cases': "Edges: life 30 is 6, 31 passes; row 2 route 2 is 4, row 3 route 2 passes", and P8, P9.
 use mathlib.Core.List.{List, [], _∷_}
 use Prim.Native.Nat.{ℕ}
-use Rattle.scenario.specs.Builder.{caseBytes, sixteen, unit, three-quarters, half, quarter, eighth, two^-52, two^-53, two^-54}
+use Rattle.scenario.specs.Builder.{caseBytes, million, ten-thousand, five-thousand, thousand, hundred, sixteen, five, unit, three-quarters, half, quarter, eighth, two^-52, two^-53, two^-54}
 
 pub record Edge : Type 0 where
   pub case : List ℕ
@@ -34,4 +34,32 @@ edges =
     ∷ (withFractions three-quarters two^-52 gives 11)
     ∷ (withFractions three-quarters two^-53 gives 0)
     ∷ (withFractions three-quarters two^-54 gives 0)
+    ∷ []
+
+-- Each listed quantity at its limit, which it may reach, with T at an end of its own. That no more is allowed stands in Passed and in emission's Ranges.
+abbrev pub ends : List Edge
+ends =
+    -- row 0, with the highest T; the fractions of kind 5 are at most 1 together
+    (caseBytes 1 0 1 0 36500 7 hundred hundred unit thousand 0 0 gives 0)
+    ∷ (caseBytes 2 0 1 0 36500 7 unit 0 unit thousand hundred five-thousand gives 0)
+    ∷ (caseBytes 3 0 1 2 100 7 unit 0 0 thousand hundred five-thousand gives 0)
+    ∷ (caseBytes 4 0 1 0 366 7 million unit unit 0 0 0 gives 0)
+    ∷ (caseBytes 5 0 1 0 366 7 million unit unit 0 0 0 gives 0)
+    ∷ (caseBytes 6 0 1 0 0 7 unit unit 0 ten-thousand hundred unit gives 0)
+    ∷ (caseBytes 7 0 1 0 100 7 unit unit five unit unit 0 gives 0)
+    -- with the lowest
+    ∷ (caseBytes 1 0 2 0 31 7 hundred hundred unit thousand 0 0 gives 0)
+    ∷ (caseBytes 2 0 2 0 31 7 unit 0 unit thousand hundred five-thousand gives 0)
+    ∷ (caseBytes 3 0 2 1 1 7 unit 0 0 thousand hundred five-thousand gives 0)
+    ∷ (caseBytes 4 0 1 0 1 7 million unit unit 0 0 0 gives 0)
+    ∷ (caseBytes 5 0 1 0 1 7 million unit 0 unit 0 0 gives 0)
+    ∷ (caseBytes 5 0 1 0 1 7 million unit 0 0 unit 0 gives 0)
+    ∷ (caseBytes 7 0 1 0 1 7 unit unit five unit unit 0 gives 0)
+    -- the last of the paper's rows
+    ∷ (caseBytes 1 7 2 0 0 7 hundred hundred unit 0 0 0 gives 0)
+    ∷ (caseBytes 2 7 2 0 0 7 unit 0 unit 0 0 0 gives 0)
+    ∷ (caseBytes 3 7 2 2 0 7 unit 0 0 0 0 0 gives 0)
+    ∷ (caseBytes 4 1 1 0 0 7 million unit unit 0 0 0 gives 0)
+    ∷ (caseBytes 6 5 1 0 0 7 unit unit 0 0 0 0 gives 0)
+    ∷ (caseBytes 7 1 1 0 0 7 unit unit five unit unit 0 gives 0)
     ∷ []
