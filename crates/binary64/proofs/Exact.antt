@@ -5,20 +5,17 @@
 -- The order of values is in `Order`.
 use mathlib.Core.Path.{_≡_, refl, sym, ap, _∙_}
 use Prim.Native.Nat.{ℕ, zero, suc, _+_, _-_, _*_, _/_, _%_, _^_, _≤_, _<_}
-use mathlib.Core.Bool.{Bool, true, false, not, _&&_, cond}
-use native.Mathlib.Nat.{mod-eq-of-lt, mul-one, zero-mul}
+use mathlib.Core.Bool.{Bool, true, false, not, cond}
+use native.Mathlib.Nat.{mod-eq-of-lt, mul-one}
 use native.Mathlib.Omega.{arith}
-use lib.Dec.{T, leb, ltb, eqb}
-use lib.Ieee.{Float, nan, inf, fin, binary64, odd, ofFields, ofBits, toBits, nanBits, isNan}
+use lib.Dec.{T, eqb}
+use lib.Ieee.{Float, nan, inf, fin, binary64, ofFields, ofBits, toBits, nanBits, isNan}
 use lib.Ieee.Bits.{nanBits-above, toBits-ofBits}
 use lib.Ieee.Exact.{HasValue, odd-sign}
 use borrow.Author.Tests.{lt-leb, le-ltb, eq-eqb, ne-eqb, eqb-true, eqb-false, not-true}
 use Rattle.binary64.specs.Pattern.{signOf, exponentOf, fractionOf, isUnsignedFinite}
 use Rattle.binary64.specs.Quantity.{wholeAt, whole, significandOf, shiftOf}
-
-both : (p q : Bool) → (p && q) ≡ true → (p ≡ true) × (q ≡ true)
-both true q e = (refl, e)
-both false q e = let z : _≡_ {A = ℕ} 0 1 = cc in absurd (omega arith)
+use Rattle.binary64.proofs.Bools.{both}
 
 -- the patterns below that of infinity
 pub unsigned-finite-lt : (b : ℕ) → b < 2 ^ 64 → isUnsignedFinite b ≡ true → b < 2047 * 2 ^ 52

@@ -3,10 +3,10 @@
 -- A number to bytes: `length-bytesOf`, `bytesOf-low`, `bytesOf-halves`.
 -- There and back: `numberOf-bytesOf`, `bytesOf-numberAt`.
 -- Writes in a list of bytes are in `Splice`.
-use mathlib.Core.Path.{_≡_, refl, sym, ap, _∙_}
+use mathlib.Core.Path.{_≡_, refl, ap, _∙_}
 use mathlib.Core.List.{List, [], _∷_, _++_}
 use Prim.Native.Nat.{ℕ, zero, suc, _+_, _*_, _/_, _%_, _^_, _≤_, _<_}
-use native.Mathlib.Nat.{zero-add, suc-add, one-mul, pow-zero, pow-suc, pow-succ', one-le-pow, mod-one, div-one, mod-lt, mod-eq-of-lt, div-eq-of-lt, div-div-eq-div-mul}
+use native.Mathlib.Nat.{zero-add, suc-add, one-mul, pow-zero, pow-suc, pow-succ', one-le-pow, mod-one, div-one, div-div-eq-div-mul}
 use native.Mathlib.Omega.{arith}
 use lib.Arith.{digits-div, digits-mod, mod-mul}
 use lib.Dec.{lit≤, lit<}

@@ -1,7 +1,7 @@
 // A number over 2 ^ k * d, rounded up once.
 ghost use mathlib.Core.Path.{_≡_};
 ghost use Prim.Native.Nat.{_+_, _*_, _/_, _%_, _^_, _≤_, _<_, min};
-ghost use lib.ListN.{length, take, drop};
+ghost use lib.ListN.{take, drop};
 ghost use Rattle.natural.specs.Value.{value};
 ghost use Rattle.natural.specs.Ceiling.{ceiling};
 use natural::arithmetic::divide;

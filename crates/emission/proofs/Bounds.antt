@@ -1,7 +1,7 @@
 -- Demand 2's bounds in plain numbers: the figures that they leave for 1/13 kg (`bounds-of-p1`), for nothing (`bounds-of-nothing`)
 -- and for a third of a microgram (`bounds-of-a-third`).
 use mathlib.Core.Path.{_≡_, refl}
-use Prim.Native.Nat.{ℕ, _*_, _≤_}
+use Prim.Native.Nat.{ℕ, _≤_}
 use native.Mathlib.Omega.{arith}
 use Rattle.product.specs.Ratio.{_over_}
 use Rattle.emission.specs.Figures.{WithinBounds, margin}

@@ -1,10 +1,9 @@
 -- What holds of each equation of a case: by row, by user, and of the four exact values by route.
---   every, every-at          a test that passes at each entry of a table
 --   by-row, with-loss        with row 0 and with the others; whatever the user
 --   of-air, of-soil          of the one equation to air and to soil, so of any case
 --   each-value               of the emissions to water, air and soil, so of the four exact values
 use mathlib.Core.Path.{_≡_, refl}
-use mathlib.Core.Bool.{Bool, true, false, _&&_, cond}
+use mathlib.Core.Bool.{Bool, true, false, cond}
 use mathlib.Core.List.{List, [], _∷_}
 use Prim.Native.Nat.{ℕ, zero, suc, _≤_, _<_}
 use native.Mathlib.Omega.{arith}
@@ -17,24 +16,11 @@ use Rattle.scenario.specs.Decoding.{caseOf, headOf}
 use Rattle.scenario.specs.declared.Case.{Case}
 use Rattle.scenario.specs.declared.Case.the-variants.{Measured, Unknown, Application, Sanitary, Formulation, Hygiene, Toilets}
 use Rattle.scenario.specs.declared.Head.{Head}
-use Rattle.scenario.proofs.Bools.{both}
 use Rattle.product.specs.Ratio.{Ratio, _over_}
 use Rattle.product.specs.Chain.{Factor, number}
 use Rattle.equations.specs.Equations.{loss, formulation, toWater, toAir, toSoil, micrograms}
 use Rattle.emission.specs.Figures.{exactValues}
 use Rattle.equations.specs.Ranges.{Within, InRange}
-
--- a test that passes at each entry of a table, and at what stands for a row that is not there
-module _ {A : Type 0} (test : A → Bool) where
-  unfoldable pub every : List A → Bool
-  every [] = true
-  every (x ∷ xs) = test x && every xs
-
-  pub every-at : (xs : List A) (none : A) → every xs ≡ true → test none ≡ true → (i : ℕ) → test (getD xs i none) ≡ true
-  unfolding every
-  every-at [] none e n i = n
-  every-at (x ∷ xs) none e n zero = both (test x) (every xs) e .0
-  every-at (x ∷ xs) none e n (suc i) = every-at xs none (both (test x) (every xs) e .1) n i
 
 -- with row 0, and with the others
 pub by-row : {A : Type 0} (P : A → Type 0) (row : ℕ) (x y : A) → (row ≡ 0 → P x) → P y → P (cond (eqb row 0) x y)

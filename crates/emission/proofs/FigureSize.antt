@@ -12,6 +12,7 @@ use lib.Ieee.{Float}
 use lib.ListN.{getD}
 use Rattle.natural.specs.Value.{productOf}
 use Rattle.natural.proofs.Ceiling.{ceiling-at-most}
+use Rattle.binary64.proofs.Bools.{every, every-at}
 use Rattle.scenario.specs.Case.{refusalOf}
 use Rattle.scenario.specs.Decoding.{caseOf, headOf}
 use Rattle.scenario.specs.declared.Case.{Case}
@@ -27,7 +28,7 @@ use Rattle.equations.specs.Constants.{numbers}
 use Rattle.product.proofs.Ratios.{AtMost, at-most-times}
 use Rattle.equations.proofs.Chains.{others, gather, chain-at-most, remainder-at-most, term, next}
 use Rattle.emission.proofs.Accepted.{in-range, figure-rounded}
-use Rattle.emission.proofs.Cases.{every, every-at, by-row, with-loss, of-air, of-soil, each-value}
+use Rattle.emission.proofs.Cases.{by-row, with-loss, of-air, of-soil, each-value}
 use Rattle.emission.proofs.Positive.{lower-not-zero}
 
 -- ── chains and sums of chains

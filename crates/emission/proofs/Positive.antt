@@ -15,7 +15,7 @@ use Rattle.scenario.specs.Decoding.{caseOf, headOf}
 use Rattle.scenario.specs.declared.Case.{Case}
 use Rattle.scenario.specs.declared.Case.the-variants.{Measured, Unknown, Application, Sanitary, Formulation, Hygiene, Toilets}
 use Rattle.scenario.specs.declared.Head.{Head}
-use Rattle.scenario.proofs.Bools.{both}
+use Rattle.binary64.proofs.Bools.{both, every, every-at}
 use Rattle.product.specs.Ratio.{_over_}
 use Rattle.equations.specs.Rows.{cities, noCity, cityAt, hygienes, noHygiene, hygieneAt}
 use Rattle.product.specs.Chain.{Factor, number, quantity}
@@ -26,7 +26,7 @@ use Rattle.equations.specs.Constants.{numbers}
 use Rattle.equations.proofs.Chains.{AllPositive, emission-positive}
 use Rattle.equations.proofs.Tables.{older-positive}
 use Rattle.emission.proofs.Accepted.{in-range}
-use Rattle.emission.proofs.Cases.{every, every-at, by-row, with-loss, of-air, of-soil, each-value}
+use Rattle.emission.proofs.Cases.{by-row, with-loss, of-air, of-soil, each-value}
 
 -- ── the rows of the paper: one computed test over each table
 

@@ -18,7 +18,7 @@ use lib.Dec.{leb}
 use lib.Pow.{pow-pos}
 use lib.Ieee.{Float}
 use borrow.Author.Tests.{leb-true}
-use Rattle.scenario.proofs.Bools.{both}
+use Rattle.binary64.proofs.Bools.{both}
 use Rattle.natural.specs.Value.{productOf}
 use Rattle.product.specs.Ratio.{Ratio, _over_, _·_, _⊕_, oneLess, exactly, Same, roundedUp}
 use Rattle.product.specs.Chain.{Factor, number, quantity, less, chain}

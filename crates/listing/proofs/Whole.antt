@@ -14,7 +14,7 @@ use borrow.Author.Tests.{ltb-false, le-leb, lt-leb}
 use lib.ListN.{length, take, length-append}
 use Rattle.binary64.specs.Bytes.{splice}
 use Rattle.binary64.proofs.Splice.{length-splice, splice-join, splice-read}
-use Rattle.scenario.proofs.Bools.{neither}
+use Rattle.binary64.proofs.Bools.{neither}
 use Rattle.records.specs.Layout.{firstLines, recordSize}
 use Rattle.records.specs.Buffer.{countAt}
 use Rattle.records.proofs.Trailer.{sound-facts}

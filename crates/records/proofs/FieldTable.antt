@@ -13,7 +13,7 @@ use lib.Seq.{take-at, take-append-le, drop-append-le, drop-append-add, length-ta
 use Rattle.binary64.specs.Bytes.{bytesOf, splice}
 use Rattle.binary64.proofs.Numbers.{length-bytesOf}
 use Rattle.scenario.specs.Builder.{caseBytes}
-use Rattle.scenario.proofs.Bools.{both}
+use Rattle.binary64.proofs.Bools.{both, every-at}
 use Rattle.records.specs.Layout.{Line, figureBytes, recordOf, trailer, recordSize, edition, bytesAt}
 use Rattle.records.specs.Fields.{Source, given, figureAt, Field, fields, noField, coversFrom, fieldBytes}
 use Rattle.records.specs.Buffer.{written}
@@ -60,15 +60,6 @@ abbrev placed : Field → Source → Bool
 placed f given = leb (f .offset + f .width) 64
 placed f (figureAt k) = eqb (f .offset) (64 + 8 * k) && (eqb (f .width) 8 && ltb k 4)
 
-abbrev allPlaced : List Field → Bool
-allPlaced [] = true
-allPlaced (f ∷ fs) = placed f (f .source) && allPlaced fs
-
-placed-at : (fs : List Field) (d : Field) (k : ℕ) → k < length fs → allPlaced fs ≡ true → placed (getD fs k d) (getD fs k d .source) ≡ true
-placed-at [] d k h e = absurd (not-suc-le-zero h)
-placed-at (f ∷ fs) d zero h e = both (placed f (f .source)) (allPlaced fs) e .0
-placed-at (f ∷ fs) d (suc k) h e = placed-at fs d k (le-of-suc-le-suc h) (both (placed f (f .source)) (allPlaced fs) e .1)
-
 as-placed : (f : Field) (s : Source) → placed f s ≡ true → Placed (f .offset) (f .width) s
 as-placed f given e = leb-true _ _ e
 as-placed f (figureAt k) e =
@@ -103,4 +94,4 @@ pub written-field : (b : List ℕ) (n : ℕ) (l : Line) → Sized l → recordSi
     bytesAt (written b n l) (recordSize * n + f .offset) (f .width) ≡ fieldBytes l (f .offset) (f .width) (f .source)
 written-field b n l h a k i =
     let f = getD fields k noField in
-    written-at b n l (f .offset) (f .width) (f .source) h a (as-placed f (f .source) (placed-at fields noField k i refl))
+    written-at b n l (f .offset) (f .width) (f .source) h a (as-placed f (f .source) (every-at (λ (g : Field). placed g (g .source)) fields noField refl refl k))

@@ -4,16 +4,14 @@
 use mathlib.Core.Path.{_≡_, refl, sym, ap, _∙_}
 use mathlib.Core.Bool.{false}
 use mathlib.Core.List.{List, [], _∷_, _++_, append-assoc}
-use Prim.Native.Nat.{ℕ, _+_, _*_, _-_, _^_, _≤_, _<_}
-use native.Mathlib.Nat.{mod-eq-of-lt}
+use Prim.Native.Nat.{ℕ, _+_, _*_, _-_, _≤_, _<_}
 use native.Mathlib.Omega.{arith}
 use lib.ListN.{length, getD, take, drop, length-append, take-append-drop}
-use lib.Seq.{take-at, drop-at}
-use Rattle.binary64.specs.Bytes.{bytesOf, numberAt, splice}
-use Rattle.binary64.proofs.Numbers.{length-bytesOf, numberOf-bytesOf}
+use lib.Seq.{take-at}
+use Rattle.binary64.specs.Bytes.{splice}
 use Rattle.binary64.proofs.Splice.{length-splice}
 use Rattle.records.specs.Layout.{Line, noLine, recordOf, records, trailer, archiveOf, firstLines, trailerSize, usedLength, mostRecords, recordSize, edition, bytesAt}
-use Rattle.records.specs.Buffer.{countAt, distanceAt, editionAt, broken, linesIn, written}
+use Rattle.records.specs.Buffer.{countAt, broken, linesIn, written}
 use Rattle.records.proofs.RecordLaws.{AllStorable, Storable, storable-snoc, length-recordOf, length-records, firstLines-records, record-at, records-snoc}
 use Rattle.records.proofs.Trailer.{TrailerRead, trailer-read, trailer-sound}
 use Rattle.records.proofs.Writing.{length-trailer}

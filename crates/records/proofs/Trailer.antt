@@ -11,7 +11,7 @@ use lib.ListN.{length, length-append}
 use lib.Seq.{take-at, drop-at}
 use Rattle.binary64.specs.Bytes.{bytesOf, numberAt}
 use Rattle.binary64.proofs.Numbers.{length-bytesOf, numberOf-bytesOf}
-use Rattle.scenario.proofs.Bools.{neither}
+use Rattle.binary64.proofs.Bools.{neither}
 use Rattle.records.specs.Layout.{trailer, trailerSize, usedLength, mostRecords, recordSize, edition}
 use Rattle.records.specs.Buffer.{distanceAt, countAt, editionAt, broken}
 

@@ -9,8 +9,8 @@ use lib.ListN.{length, getD, take, drop, length-take, take-append-drop}
 use lib.Seq.{take-add, drop-drop}
 use Rattle.binary64.specs.Bytes.{bytesOf}
 use Rattle.binary64.proofs.Numbers.{bytesOf-numberAt}
-use Rattle.records.specs.Layout.{bytesAt, trailer, trailerSize, usedLength, mostRecords, recordSize, edition}
-use Rattle.records.specs.Buffer.{distanceAt, countAt, editionAt, broken}
+use Rattle.records.specs.Layout.{bytesAt, trailer}
+use Rattle.records.specs.Buffer.{countAt, broken}
 use Rattle.records.proofs.Trailer.{sound-facts, trailer-read, trailer-sound}
 
 part-add : (b : List ℕ) (at n m : ℕ) → bytesAt b at (n + m) ≡ bytesAt b at n ++ bytesAt b (at + n) m

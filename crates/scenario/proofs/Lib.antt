@@ -1,5 +1,4 @@
 -- Laws that this crate's proofs and the crates above cite, and theorems on refusals and cases.
-pub mod Bools
 pub mod Refusals
 pub mod KindTable
 pub mod Six

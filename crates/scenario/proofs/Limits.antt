@@ -3,7 +3,7 @@
 -- That patterns are in the order of their values is in crate binary64, `Order`.
 use mathlib.Core.Path.{_≡_, refl, ap}
 use mathlib.Core.Bool.{Bool, true, false, not, _&&_, cond}
-use mathlib.Core.List.{List, [], _∷_, map}
+use mathlib.Core.List.{List, [], _∷_}
 use Prim.Native.Nat.{ℕ, zero, suc, _*_}
 use lib.Dec.{leb, eqb}
 use lib.Ieee.{ofInt, toBits}
@@ -12,11 +12,11 @@ use borrow.Author.Tests.{eqb-true, eq-eqb, not-true}
 use Rattle.binary64.specs.Quantity.{whole, one}
 use Rattle.binary64.proofs.Order.{limit-as-pattern}
 use Rattle.scenario.specs.Refusal.{firstOf}
-use Rattle.scenario.specs.Case.{Listing, unlisted, upTo, Kind, kinds, noKind, kindAt, listingsAt, listingAt, anyOfSix, anyNotNumber, notZeroBytes, overLimit, sumOver, quantityRefusals}
+use Rattle.scenario.specs.Case.{Listing, unlisted, upTo, Kind, kinds, noKind, kindAt, listingsAt, listingAt, anyNotNumber, notZeroBytes, overLimit, sumOver, quantityRefusals}
 use Rattle.scenario.specs.Patterns.{at, IsLimit, limitPattern, limitPatterns, addFaults, faultsOf}
 use Rattle.scenario.specs.declared.quantities.Faults.{Faults}
 use Rattle.scenario.proofs.Six.{six-same}
-use Rattle.scenario.proofs.Bools.{both}
+use Rattle.binary64.proofs.Bools.{both, every, every-at}
 
 -- ── the rule of a limit, as a test
 
@@ -33,16 +33,6 @@ limit-by-test (upTo n) m e =
 
 -- ── of the whole table
 
-every : {A : Type 0} → (A → Bool) → List A → Bool
-every f [] = true
-every f (x ∷ xs) = f x && every f xs
-
-every-at : {A : Type 0} (f : A → Bool) (d : A) → f d ≡ true → (xs : List A) → every f xs ≡ true → (i : ℕ) → f (getD xs i d) ≡ true
-unfolding every
-every-at f d h [] e i = h
-every-at f d h (x ∷ xs) e zero = both (f x) (every f xs) e .0
-every-at f d h (x ∷ xs) e (suc i) = every-at f d h xs (both (f x) (every f xs) e .1) i
-
 right : Listing → Bool
 unfolding isLimit
 right l = isLimit l (limitPattern l)
@@ -53,7 +43,7 @@ rightOf k = every right (k .own) && every right (k .row)
 
 table-right : (k : ℕ) → rightOf (kindAt k) ≡ true
 unfolding rightOf every right isLimit kindAt kinds limitPattern whole ofInt toBits
-table-right = every-at rightOf noKind refl (noKind ∷ kinds) refl
+table-right = every-at rightOf (noKind ∷ kinds) noKind refl refl
 
 listings-right : (k row : ℕ) → every right (listingsAt k row) ≡ true
 unfolding rightOf listingsAt

@@ -3,17 +3,15 @@
 use mathlib.Core.Path.{_≡_, refl, sym, _∙_, subst}
 use mathlib.Core.Bool.{Bool, true, false, _&&_, _||_}
 use mathlib.Core.List.{List}
-use Prim.Native.Nat.{ℕ, _*_, _≤_, _<_}
+use Prim.Native.Nat.{ℕ, _*_, _≤_}
 use native.Mathlib.Omega.{arith}
 use lib.Dec.{leb, eqb}
 use lib.Ieee.{binary64, ofBits}
 use lib.ListN.{length}
 use borrow.Author.Tests.{not-false, leb-true, eqb-true, eq-eqb, ne-eqb}
-use Rattle.binary64.specs.Pattern.{isUnsignedFinite}
 use Rattle.binary64.specs.Quantity.{whole, one}
-use Rattle.scenario.specs.Case.{Listing, unlisted, upTo, _to_, within, kinds, kindAt, countsAt, listingAt, kindOf, rowOf, routeOf, userOf, countOf, dossierOf, patternAt, notSixtyFour, kindUnknown, rowUnknown, routeNotAllowed, userNotAllowed, countNotAllowed, dossierZero, anyNotNumber, notZeroBytes, overLimit, sumWithin, sumOver, refusals, refusalOf}
+use Rattle.scenario.specs.Case.{Listing, unlisted, upTo, _to_, within, kinds, kindAt, countsAt, listingAt, kindOf, rowOf, routeOf, userOf, countOf, patternAt, notSixtyFour, kindUnknown, rowUnknown, routeNotAllowed, userNotAllowed, countNotAllowed, notZeroBytes, overLimit, sumWithin, sumOver, refusals, refusalOf}
 pub use Rattle.scenario.specs.Passed.{Passed}
-use Rattle.scenario.proofs.Bools.{both}
 use Rattle.scenario.proofs.Refusals.{none-holds}
 use Rattle.scenario.proofs.KindTable.{in-range, only-zero, paper-rows-count, city-rows, city-life, other-users}
 use Rattle.scenario.proofs.Six.{none-of-six, each-finite}

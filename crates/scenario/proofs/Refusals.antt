@@ -4,7 +4,7 @@
 -- Of a case: `refusal-order`, `refusal-of-length`, `refusal-of-fields`, `decoded-accepted`, `decoded-refused`.
 -- What a case without refusal satisfies is in `Passed`.
 use mathlib.Core.Path.{_≡_, refl, subst}
-use mathlib.Core.Bool.{Bool, true, false, not, _&&_, cond}
+use mathlib.Core.Bool.{Bool, true, false, not, cond}
 use mathlib.Core.List.{List, [], _∷_, _++_}
 use Prim.Native.Nat.{ℕ, zero, suc}
 use lib.Dec.{eqb}
@@ -16,7 +16,7 @@ use Rattle.scenario.specs.Patterns.{patternsOf, at}
 use Rattle.scenario.specs.declared.Head.{Head}
 use Rattle.scenario.specs.Decoding.{headOf, caseOf, decoded}
 use Rattle.scenario.specs.declared.Decoded.the-variants.{Accepted, Refused}
-use Rattle.scenario.proofs.Bools.{both}
+use Rattle.binary64.proofs.Bools.{both}
 
 pub first-of-is-first : (cs : List Condition) → IsFirst cs (firstOf cs)
 first-of-is-first [] = none

@@ -1,5 +1,4 @@
 -- The loop's invariant: the limbs below i and what is left to borrow are the difference.
-use mathlib.Core.Path.{_∙_}
 use Prim.Native.Nat.{_-_, _≤_}
 use native.Mathlib.Omega.{arith}
 use lib.ListN.{length, length-set}

@@ -1,5 +1,5 @@
 -- The loop's invariant: the limbs below i and the borrow are the difference of those at entry.
-use mathlib.Core.Path.{ap, _∙_}
+use mathlib.Core.Path.{ap}
 use Prim.Native.Nat.{_-_, _≤_}
 use native.Mathlib.Omega.{arith}
 use lib.ListN.{length, take, length-set}
