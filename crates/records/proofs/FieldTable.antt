@@ -13,7 +13,7 @@ use lib.Seq.{take-at, take-append-le, drop-append-le, drop-append-add, length-ta
 use Rattle.binary64.specs.Bytes.{bytesOf, splice}
 use Rattle.binary64.proofs.Numbers.{length-bytesOf}
 use Rattle.scenario.specs.Builder.{caseBytes}
-use Rattle.binary64.proofs.Bools.{both, every-at}
+use Rattle.binary64.proofs.Bools.{both, every, every-at}
 use Rattle.records.specs.Layout.{Line, figureBytes, recordOf, trailer, recordSize, edition, bytesAt}
 use Rattle.records.specs.Fields.{Source, given, figureAt, Field, fields, noField, coversFrom, fieldBytes}
 use Rattle.records.specs.Buffer.{written}
@@ -92,6 +92,7 @@ written-at b n l o w s h a p =
 pub written-field : (b : List ℕ) (n : ℕ) (l : Line) → Sized l → recordSize * n ≤ length b → (k : ℕ) → k < length fields
     → let f = getD fields k noField in
     bytesAt (written b n l) (recordSize * n + f .offset) (f .width) ≡ fieldBytes l (f .offset) (f .width) (f .source)
+unfolding every
 written-field b n l h a k i =
     let f = getD fields k noField in
     written-at b n l (f .offset) (f .width) (f .source) h a (as-placed f (f .source) (every-at (λ (g : Field). placed g (g .source)) fields noField refl refl k))
