@@ -12,7 +12,7 @@ use lib.Arith.{digits-div, digits-mod, mod-mul}
 use lib.Dec.{lit≤, lit<}
 use lib.ListN.{length, take, drop, getD, length-drop}
 use lib.Seq.{getD-drop, drop-drop, take-nil, drop-nil}
-use Rattle.binary64.specs.Bytes.{bytesOf, numberOf, numberAt}
+use Rattle.binary64.specs.Bytes.{AreBytes, bytesOf, numberOf, numberAt}
 
 power-pos : (w : ℕ) → 0 < 256 ^ w
 power-pos w = one-le-pow w 256 (lit≤ tt)
@@ -42,13 +42,13 @@ numberAt-one (b ∷ l) zero = omega arith
 numberAt-one (b ∷ l) (suc at) = numberAt-one l at
 
 -- of as many bytes as k at the most
-pub numberOf-small : (l : List ℕ) (k : ℕ) → ((i : ℕ) → getD l i 0 < 256) → numberOf (take k l) < 256 ^ k
+pub numberOf-small : (l : List ℕ) (k : ℕ) → AreBytes l → numberOf (take k l) < 256 ^ k
 unfolding numberOf
 numberOf-small l zero h = rw pow-zero (omega arith)
 numberOf-small [] (suc k) h = power-pos (suc k)
 numberOf-small (b ∷ l) (suc k) h = omega (arith, h zero, pow-suc 256 k, numberOf-small l k (λ i. h (suc i)))
 
-pub numberAt-small : (l : List ℕ) (at k : ℕ) → ((i : ℕ) → getD l i 0 < 256) → numberAt l at k < 256 ^ k
+pub numberAt-small : (l : List ℕ) (at k : ℕ) → AreBytes l → numberAt l at k < 256 ^ k
 unfolding numberAt
 numberAt-small l at k h = numberOf-small (drop at l) k (λ i. rw getD-drop (h (at + i)))
 
@@ -91,7 +91,7 @@ unfolding numberOf bytesOf
 numberOf-bytesOf zero x = rw (pow-zero, mod-one)
 numberOf-bytesOf (suc w) x = omega (arith, low-digits w x, numberOf-bytesOf w (x / 256))
 
-first-bytes : (l : List ℕ) (w : ℕ) → ((i : ℕ) → getD l i 0 < 256) → w ≤ length l → bytesOf w (numberOf (take w l)) ≡ take w l
+first-bytes : (l : List ℕ) (w : ℕ) → AreBytes l → w ≤ length l → bytesOf w (numberOf (take w l)) ≡ take w l
 unfolding numberOf bytesOf
 first-bytes l zero h k = refl
 first-bytes [] (suc w) h k = absurd (omega arith)
@@ -101,6 +101,6 @@ first-bytes (b ∷ l) (suc w) h k =
     let q : (b + 256 * numberOf (take w l)) / 256 ≡ numberOf (take w l) = omega arith in
     rw (r, q) (ap (λ (m : List ℕ). b ∷ m) (first-bytes l w (λ i. h (suc i)) (omega arith)))
 
-pub bytesOf-numberAt : (l : List ℕ) (at w : ℕ) → ((i : ℕ) → getD l i 0 < 256) → at + w ≤ length l → bytesOf w (numberAt l at w) ≡ take w (drop at l)
+pub bytesOf-numberAt : (l : List ℕ) (at w : ℕ) → AreBytes l → at + w ≤ length l → bytesOf w (numberAt l at w) ≡ take w (drop at l)
 unfolding numberAt
 bytesOf-numberAt l at w h k = first-bytes (drop at l) w (λ i. rw getD-drop (h (at + i))) (rw length-drop (omega arith))

@@ -1,7 +1,11 @@
 -- Numbers in bytes, little-endian, and a list with some of its places written.
-use Prim.Native.Nat.{ℕ, zero, suc, _+_, _*_, _/_, _%_}
+use Prim.Native.Nat.{ℕ, zero, suc, _+_, _*_, _/_, _%_, _<_}
 use mathlib.Core.List.{List, [], _∷_, _++_}
-use lib.ListN.{length, take, drop}
+use lib.ListN.{length, getD, take, drop}
+
+-- each is a byte; a place that is not there counts as 0
+abbrev pub AreBytes : List ℕ → Type 0
+AreBytes l = (i : ℕ) → getD l i 0 < 256
 
 -- the w low bytes of x, the lowest first
 unfoldable pub bytesOf : ℕ → ℕ → List ℕ

@@ -9,10 +9,10 @@ use mathlib.Core.List.{List, [], _∷_, _++_}
 use Prim.Native.Nat.{ℕ, zero, suc, _+_, _*_, _-_, _^_, _≤_, _<_}
 use native.Mathlib.Nat.{sub-zero}
 use native.Mathlib.Omega.{arith}
-use lib.ListN.{length, getD, take, drop, length-append, length-drop}
+use lib.ListN.{length, take, drop, length-append, length-drop}
 use lib.Seq.{drop-drop, getD-drop, length-take-le}
 use Rattle.natural.proofs.Ceiling.{ceiling-at-most}
-use Rattle.binary64.specs.Bytes.{numberAt, splice}
+use Rattle.binary64.specs.Bytes.{AreBytes, numberAt, splice}
 use Rattle.binary64.proofs.Numbers.{numberAt-small}
 use Rattle.binary64.proofs.Splice.{splice-join}
 use Rattle.records.specs.Layout.{Line, lineOf, firstLines, recordSize}
@@ -67,9 +67,6 @@ unfolding linesFrom linesText firstLines
 lines-end b n k h = let d : n - k ≡ 0 = omega arith in rw d
 
 -- ── bounds
-
-abbrev pub AreBytes : List ℕ → Type 0
-AreBytes b = (i : ℕ) → getD b i 0 < 256
 
 take-bytes : (n : ℕ) (b : List ℕ) → AreBytes b → AreBytes (take n b)
 take-bytes zero b h i = omega arith

@@ -12,7 +12,7 @@ use Prim.Native.Nat.{ℕ, _+_, _*_, _≤_, _<_}
 use native.Mathlib.Omega.{arith}
 use borrow.Author.Tests.{ltb-false, le-leb, lt-leb}
 use lib.ListN.{length, take, length-append}
-use Rattle.binary64.specs.Bytes.{splice}
+use Rattle.binary64.specs.Bytes.{AreBytes, splice}
 use Rattle.binary64.proofs.Splice.{length-splice, splice-join, splice-read}
 use Rattle.binary64.proofs.Bools.{neither}
 use Rattle.records.specs.Layout.{firstLines, recordSize}
@@ -21,7 +21,7 @@ use Rattle.records.proofs.Trailer.{sound-facts}
 use Rattle.listing.specs.Listing.{codes, header, refusal, linesText, mostOutput, refused, listingOf, listed, listedBytes}
 use Rattle.listing.specs.declared.Listed.{Listed}
 use Rattle.listing.specs.declared.Listed.the-variants.{Written, Needs}
-use Rattle.listing.proofs.RecordLines.{AreBytes, lines-at-most}
+use Rattle.listing.proofs.RecordLines.{lines-at-most}
 
 -- the number of records, with all of the input as used length
 abbrev pub countIn : List ℕ → ℕ

@@ -2,7 +2,9 @@
 pub mod Writing
 pub mod RecordLaws
 pub mod Trailer
-pub mod Scan
+pub mod LinesFrom
+pub mod SameFiling
+pub mod WorstScan
 pub mod HeldLine
 pub mod WorstLine
 pub mod FieldTable

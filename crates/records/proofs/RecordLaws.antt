@@ -1,7 +1,7 @@
 -- Laws of records: what is written is read back.
 -- Numbers: `number-back`, `figures-back`. Lines that a record holds: `Sized`, `Storable`, `AllStorable`, `storable-snoc`. Lengths: `length-recordOf`, `length-records`, `length-firstLines`.
 -- Back: `line-record`, `firstLines-records`, `record-at`. One more line: `records-snoc`. Places: `numberAt-drop`, `part-take`, `part-drop`, `line-figures`.
--- Searches over records are in `Scan`.
+-- Searches over records are in `SameFiling` and `WorstScan`.
 use mathlib.Core.Path.{_≡_, refl, sym, ap, _∙_, subst}
 use mathlib.Core.List.{List, [], _∷_, _++_, append-assoc, append-nil}
 use Prim.Native.Nat.{ℕ, zero, suc, _+_, _*_, _-_, _^_, _≤_, _<_}

@@ -3,11 +3,11 @@
 use mathlib.Core.Path.{_≡_, refl, sym, ap, _∙_}
 use mathlib.Core.Bool.{false}
 use mathlib.Core.List.{List, [], _∷_, _++_, append-assoc}
-use Prim.Native.Nat.{ℕ, _+_, _-_, _*_, _≤_, _<_}
+use Prim.Native.Nat.{ℕ, _+_, _-_, _*_, _≤_}
 use native.Mathlib.Omega.{arith}
-use lib.ListN.{length, getD, take, drop, length-take, take-append-drop}
+use lib.ListN.{length, take, drop, length-take, take-append-drop}
 use lib.Seq.{take-add, drop-drop}
-use Rattle.binary64.specs.Bytes.{bytesOf}
+use Rattle.binary64.specs.Bytes.{AreBytes, bytesOf}
 use Rattle.binary64.proofs.Numbers.{bytesOf-numberAt}
 use Rattle.records.specs.Layout.{bytesAt, trailer}
 use Rattle.records.specs.Buffer.{countAt, broken}
@@ -16,7 +16,7 @@ use Rattle.records.proofs.Trailer.{sound-facts, trailer-read, trailer-s
 part-add : (b : List ℕ) (at n m : ℕ) → bytesAt b at (n + m) ≡ bytesAt b at n ++ bytesAt b (at + n) m
 part-add b at n m = take-add n m (drop at b) ∙ ap (λ (l : List ℕ). take n (drop at b) ++ take m l) (drop-drop n at b)
 
-pub trailer-there : (b : List ℕ) (u : ℕ) → ((i : ℕ) → getD b i 0 < 256) → broken b u ≡ false
+pub trailer-there : (b : List ℕ) (u : ℕ) → AreBytes b → broken b u ≡ false
     → (countAt b u ≤ 1000000) × (u ≡ 96 * countAt b u + 16) × (u ≤ length b) × (bytesAt b (u - 16) 16 ≡ trailer 96 1 (countAt b u))
 unfolding trailer
 trailer-there b u h e =

@@ -7,7 +7,8 @@ use native.Mathlib.Omega.{arith}
 use lib.Dec.{eqb}
 use Rattle.records.specs.Layout.{Line, firstLines, recordSize}
 use Rattle.records.specs.Lines.{held}
-use Rattle.records.proofs.Scan.{from, from-start, same-numbers, held-step, held-none}
+use Rattle.records.proofs.LinesFrom.{from, from-start}
+use Rattle.records.proofs.SameFiling.{same-numbers, held-step, held-none}
 use Rattle.records.proofs.search.is_held.Statement.{statement}
 use Rattle.records.proofs.search.is_held.Tie as tie
 

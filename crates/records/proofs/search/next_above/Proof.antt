@@ -3,7 +3,8 @@ use mathlib.Core.Path.{_≡_, refl}
 use Prim.Native.Nat.{_+_, _-_, _≤_}
 use native.Mathlib.Omega.{arith}
 use Rattle.records.specs.Lines.{firstAbove}
-use Rattle.records.proofs.Scan.{from, above-here, above-next, above-none}
+use Rattle.records.proofs.LinesFrom.{from}
+use Rattle.records.proofs.WorstScan.{above-here, above-next, above-none}
 use Rattle.records.proofs.search.next_above.Statement.{statement}
 use Rattle.records.proofs.search.next_above.Tie as tie
 

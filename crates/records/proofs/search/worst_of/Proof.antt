@@ -2,7 +2,8 @@
 use mathlib.Core.Path.{sym, _∙_}
 use Prim.Native.Nat.{_-_, _≤_, _<_}
 use native.Mathlib.Omega.{arith}
-use Rattle.records.proofs.Scan.{from, Scanned, scan-start, scan-inside, scan-here, scan-end, above-none}
+use Rattle.records.proofs.LinesFrom.{from}
+use Rattle.records.proofs.WorstScan.{Scanned, scan-start, scan-inside, scan-here, scan-end, above-none}
 use Rattle.records.proofs.search.worst_of.Statement.{statement}
 use Rattle.records.proofs.search.worst_of.Tie as tie
 

@@ -1,102 +1,19 @@
--- Laws of searching the records of a buffer.
--- The lines from record k on: `from`, `from-start`, `from-end`, `from-cons`. The same filing by two numbers: `same-numbers`; `held-step`, `held-none`;
--- by the fields that agree: `same-filing-fields`.
--- The highest figure, from the first record to the last: the next above a figure, `above-here`, `above-next`, `above-none`; `scan-start`, `scan-inside`, `scan-here`, `scan-end`.
+-- Laws of the search for the highest figure, from the first record to the last: the next above a figure, `above-here`, `above-next`, `above-none`;
+-- `scan-start`, `scan-inside`, `scan-here`, `scan-end`.
 use mathlib.Core.Path.{_≡_, refl, sym, ap, _∙_}
-use mathlib.Core.Bool.{Bool, true, false, _&&_, _||_, cond}
+use mathlib.Core.Bool.{Bool, true, false, cond}
 use mathlib.Core.List.{List, [], _∷_}
 use Prim.Native.Nat.{ℕ, zero, suc, _+_, _*_, _-_, _≤_, _<_, max}
-use native.Mathlib.Nat.{sub-zero, add-zero, zero-add, mul-suc, le-of-suc-le-suc, not-suc-le-zero}
+use native.Mathlib.Nat.{add-zero, zero-add, mul-suc, le-of-suc-le-suc, not-suc-le-zero}
 use native.Mathlib.Omega.{arith}
-use borrow.Author.Tests.{eq-eqb, ne-eqb, eqb-true, eqb-false, lt-ltb, le-ltb, ltb-true, ltb-false}
-use lib.Dec.{ltb, eqb}
-use lib.ListN.{length, getD, take, drop, length-drop}
-use lib.Seq.{drop-drop, getD-drop}
+use borrow.Author.Tests.{eq-eqb, ne-eqb, lt-ltb, le-ltb, ltb-true, ltb-false}
+use lib.Dec.{ltb}
+use lib.ListN.{getD, take, drop}
 use Rattle.binary64.specs.Bytes.{numberOf, numberAt}
-use Rattle.scenario.specs.Case.{kindOf, rowOf, routeOf, userOf, dossierOf}
-use Rattle.records.specs.Layout.{Line, figuresIn, lineOf, firstLines, recordSize, bytesAt}
-use Rattle.records.specs.Lines.{sameBytes, sameFiling, held, figure, highest, firstWith, firstAbove, worstOf}
-use Rattle.records.proofs.RecordLaws.{numberAt-drop, part-take, part-drop}
-
--- ── the lines from record k on
-
-unfoldable pub from : List ℕ → ℕ → ℕ → List Line
-from b n k = firstLines recordSize (n - k) (drop (recordSize * k) b)
-
-pub from-start : (b : List ℕ) (n : ℕ) → from b n 0 ≡ firstLines recordSize n b
-unfolding from
-from-start b n = rw sub-zero
-
-from-end : (b : List ℕ) (n k : ℕ) → n ≤ k → from b n k ≡ []
-unfolding from firstLines
-from-end b n k h = let d : n - k ≡ 0 = omega arith in rw d
-
-pub lineAt : List ℕ → ℕ → Line
-lineAt b k = lineOf (take recordSize (drop (recordSize * k) b))
-
-from-cons : (b : List ℕ) (n k : ℕ) → k < n → from b n k ≡ lineAt b k ∷ from b n (k + 1)
-unfolding from firstLines lineAt
-from-cons b n k h =
-    let d : n - k ≡ suc (n - (k + 1)) = omega arith in
-    let e : recordSize * (k + 1) ≡ recordSize * k + recordSize = omega arith in
-    rw (d, e, ← drop-drop recordSize (recordSize * k) b)
-
--- ── equal numbers are equal bytes
-
-abbrev Bytes : List ℕ → Type 0
-Bytes l = (i : ℕ) → getD l i 0 < 256
-
-digit : (x y a b : ℕ) (p q : Bool) → eqb x y ≡ p → eqb a b ≡ q → x < 256 → y < 256 → eqb (x + 256 * a) (y + 256 * b) ≡ (p && q)
-digit x y a b true true e f hx hy = eq-eqb (x + 256 * a) (y + 256 * b) (omega (arith, eqb-true x y e, eqb-true a b f))
-digit x y a b true false e f hx hy = ne-eqb (x + 256 * a) (y + 256 * b) (λ h. eqb-false a b f (omega arith))
-digit x y a b false q e f hx hy = ne-eqb (x + 256 * a) (y + 256 * b) (λ h. eqb-false x y e (omega arith))
-
-same-front : (k : ℕ) (xs ys : List ℕ) → Bytes xs → Bytes ys → k ≤ length xs → k ≤ length ys
-    → eqb (numberOf (take k xs)) (numberOf (take k ys)) ≡ sameBytes (take k xs) (take k ys)
-unfolding numberOf
-same-front zero xs ys bx by hx hy = refl
-same-front (suc k) [] ys bx by hx hy = absurd (omega arith)
-same-front (suc k) (x ∷ xs) [] bx by hx hy = absurd (omega arith)
-same-front (suc k) (x ∷ xs) (y ∷ ys) bx by hx hy =
-    digit x y (numberOf (take k xs)) (numberOf (take k ys)) (eqb x y) (sameBytes (take k xs) (take k ys)) refl
-    (same-front k xs ys (λ i. bx (suc i)) (λ i. by (suc i)) (omega arith) (omega arith)) (bx zero) (by zero)
-
-same-part : (b c : List ℕ) (i j k : ℕ) → Bytes b → Bytes c → i + k ≤ length b → j + k ≤ length c
-    → eqb (numberAt b i k) (numberAt c j k) ≡ sameBytes (bytesAt b i k) (bytesAt c j k)
-unfolding numberAt
-same-part b c i j k bb bc hb hc =
-    same-front k (drop i b) (drop j c) (λ n. rw getD-drop (bb (i + n))) (λ n. rw getD-drop (bc (j + n))) (rw length-drop (omega arith)) (rw length-drop (omega arith))
-
--- ── held
-
-case-part : (b : List ℕ) (k i n : ℕ) → i + n ≤ 64 → bytesAt (lineAt b k .case) i n ≡ bytesAt b (recordSize * k + i) n
-unfolding lineAt lineOf
-case-part b k i n h =
-    part-take (take recordSize (drop (recordSize * k) b)) i n 64 h ∙ part-take (drop (recordSize * k) b) i n recordSize (omega arith) ∙ part-drop b i n (recordSize * k)
-
-both-ways : (a b : Bool) → (a && b) ≡ (b && a)
-both-ways true true = refl
-both-ways true false = refl
-both-ways false true = refl
-both-ways false false = refl
-
--- of two numbers read from record k and two of the case
-pub same-numbers : (b c : List ℕ) (k : ℕ) {x y h d : ℕ} → Bytes b → Bytes c → recordSize * k + recordSize ≤ length b → length c ≡ 64
-    → x ≡ numberAt b (recordSize * k) 4 → h ≡ numberAt c 0 4 → y ≡ numberAt b (recordSize * k + 8) 8 → d ≡ numberAt c 8 8
-    → (eqb y d && eqb x h) ≡ sameFiling (lineAt b k .case) c
-unfolding sameFiling
-same-numbers b c k {x = x₀} {y = y₀} {h = h₀} {d = d₀} bb bc hb hc x h y d =
-    both-ways (eqb y₀ d₀) (eqb x₀ h₀) ∙ rw (case-part b k 0 4 (omega arith), case-part b k 8 8 (omega arith), add-zero, x, h, y, d, same-part b c (recordSize * k) 0 4 bb bc (omega arith) (omega arith), same-part b c (recordSize * k + 8) 8 8 bb bc (omega arith) (omega arith))
-
-pub held-step : (b c : List ℕ) (n k : ℕ) → k < n → held (from b n k) c ≡ (sameFiling (lineAt b k .case) c || held (from b n (k + 1)) c)
-unfolding held
-held-step b c n k h = rw (from-cons b n k h)
-
-pub held-none : (b c : List ℕ) (n k : ℕ) → n ≤ k → held (from b n k) c ≡ false
-unfolding held
-held-none b c n k h = rw (from-end b n k h)
-
--- ── the highest figure
+use Rattle.records.specs.Layout.{Line, figuresIn, lineOf, firstLines, recordSize}
+use Rattle.records.specs.Lines.{figure, highest, firstWith, firstAbove, worstOf}
+use Rattle.records.proofs.RecordLaws.{numberAt-drop, part-take}
+use Rattle.records.proofs.LinesFrom.{from, from-start, from-end, lineAt, from-cons}
 
 figuresIn-at : (m c : ℕ) (b : List ℕ) → c < m → getD (figuresIn m b) c 0 ≡ numberAt b (8 * c) 8
 unfolding figuresIn
@@ -240,28 +157,3 @@ scan-end b n m k best top s f =
     let r = pass b n m best top (n - k) k n (omega (arith, s .most)) s f in
     let e = rw (from-end b n n (omega arith)) at (r .scanned .left) in
     rw (le-ltb top 0 (omega arith)) at e
-
--- ── the same filing in the fields of a case
-
-regroup : (p q r s t : Bool) → ((p && (q && (r && (s && true)))) && t) ≡ (p && (q && (r && (s && t))))
-regroup false q r s t = refl
-regroup true false r s t = refl
-regroup true true false s t = refl
-regroup true true true false t = refl
-regroup true true true true t = refl
-
--- the fields on which two cases agree that are the same filing: kind, row, route, user, dossier number, and no other
-pub same-filing-fields : (c d : List ℕ) → Bytes c → Bytes d → length c ≡ 64 → length d ≡ 64
-    → sameFiling c d ≡ (eqb (kindOf c) (kindOf d) && (eqb (rowOf c) (rowOf d) && (eqb (routeOf c) (routeOf d) && (eqb (userOf c) (userOf d) && eqb (dossierOf c) (dossierOf d)))))
-unfolding sameFiling
-same-filing-fields [] d bc bd hc hd = absurd (omega arith)
-same-filing-fields (c₀ ∷ []) d bc bd hc hd = absurd (omega arith)
-same-filing-fields (c₀ ∷ c₁ ∷ []) d bc bd hc hd = absurd (omega arith)
-same-filing-fields (c₀ ∷ c₁ ∷ c₂ ∷ []) d bc bd hc hd = absurd (omega arith)
-same-filing-fields (c₀ ∷ c₁ ∷ c₂ ∷ c₃ ∷ c) [] bc bd hc hd = absurd (omega arith)
-same-filing-fields (c₀ ∷ c₁ ∷ c₂ ∷ c₃ ∷ c) (d₀ ∷ []) bc bd hc hd = absurd (omega arith)
-same-filing-fields (c₀ ∷ c₁ ∷ c₂ ∷ c₃ ∷ c) (d₀ ∷ d₁ ∷ []) bc bd hc hd = absurd (omega arith)
-same-filing-fields (c₀ ∷ c₁ ∷ c₂ ∷ c₃ ∷ c) (d₀ ∷ d₁ ∷ d₂ ∷ []) bc bd hc hd = absurd (omega arith)
-same-filing-fields (c₀ ∷ c₁ ∷ c₂ ∷ c₃ ∷ c) (d₀ ∷ d₁ ∷ d₂ ∷ d₃ ∷ d) bc bd hc hd =
-    rw (same-part (c₀ ∷ c₁ ∷ c₂ ∷ c₃ ∷ c) (d₀ ∷ d₁ ∷ d₂ ∷ d₃ ∷ d) 8 8 8 bc bd (omega arith) (omega arith))
-    (regroup (eqb c₀ d₀) (eqb c₁ d₁) (eqb c₂ d₂) (eqb c₃ d₃) (sameBytes (bytesAt (c₀ ∷ c₁ ∷ c₂ ∷ c₃ ∷ c) 8 8) (bytesAt (d₀ ∷ d₁ ∷ d₂ ∷ d₃ ∷ d) 8 8)))

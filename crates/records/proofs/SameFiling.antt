@@ -1,0 +1,94 @@
+-- Laws of the same filing: by two numbers, `same-numbers`; by the fields that agree, `same-filing-fields`. Whether it is held, record by record: `held-step`, `held-none`.
+use mathlib.Core.Path.{_≡_, refl, _∙_}
+use mathlib.Core.Bool.{Bool, true, false, _&&_, _||_}
+use mathlib.Core.List.{List, [], _∷_}
+use Prim.Native.Nat.{ℕ, zero, suc, _+_, _*_, _-_, _≤_, _<_}
+use native.Mathlib.Nat.{add-zero}
+use native.Mathlib.Omega.{arith}
+use borrow.Author.Tests.{eq-eqb, ne-eqb, eqb-true, eqb-false}
+use lib.Dec.{eqb}
+use lib.ListN.{length, take, drop, length-drop}
+use lib.Seq.{getD-drop}
+use Rattle.binary64.specs.Bytes.{AreBytes, numberOf, numberAt}
+use Rattle.scenario.specs.Case.{kindOf, rowOf, routeOf, userOf, dossierOf}
+use Rattle.records.specs.Layout.{lineOf, recordSize, bytesAt}
+use Rattle.records.specs.Lines.{sameBytes, sameFiling, held}
+use Rattle.records.proofs.RecordLaws.{part-take, part-drop}
+use Rattle.records.proofs.LinesFrom.{from, from-end, lineAt, from-cons}
+
+-- ── equal numbers are equal bytes
+
+digit : (x y a b : ℕ) (p q : Bool) → eqb x y ≡ p → eqb a b ≡ q → x < 256 → y < 256 → eqb (x + 256 * a) (y + 256 * b) ≡ (p && q)
+digit x y a b true true e f hx hy = eq-eqb (x + 256 * a) (y + 256 * b) (omega (arith, eqb-true x y e, eqb-true a b f))
+digit x y a b true false e f hx hy = ne-eqb (x + 256 * a) (y + 256 * b) (λ h. eqb-false a b f (omega arith))
+digit x y a b false q e f hx hy = ne-eqb (x + 256 * a) (y + 256 * b) (λ h. eqb-false x y e (omega arith))
+
+same-front : (k : ℕ) (xs ys : List ℕ) → AreBytes xs → AreBytes ys → k ≤ length xs → k ≤ length ys
+    → eqb (numberOf (take k xs)) (numberOf (take k ys)) ≡ sameBytes (take k xs) (take k ys)
+unfolding numberOf
+same-front zero xs ys bx by hx hy = refl
+same-front (suc k) [] ys bx by hx hy = absurd (omega arith)
+same-front (suc k) (x ∷ xs) [] bx by hx hy = absurd (omega arith)
+same-front (suc k) (x ∷ xs) (y ∷ ys) bx by hx hy =
+    digit x y (numberOf (take k xs)) (numberOf (take k ys)) (eqb x y) (sameBytes (take k xs) (take k ys)) refl
+    (same-front k xs ys (λ i. bx (suc i)) (λ i. by (suc i)) (omega arith) (omega arith)) (bx zero) (by zero)
+
+same-part : (b c : List ℕ) (i j k : ℕ) → AreBytes b → AreBytes c → i + k ≤ length b → j + k ≤ length c
+    → eqb (numberAt b i k) (numberAt c j k) ≡ sameBytes (bytesAt b i k) (bytesAt c j k)
+unfolding numberAt
+same-part b c i j k bb bc hb hc =
+    same-front k (drop i b) (drop j c) (λ n. rw getD-drop (bb (i + n))) (λ n. rw getD-drop (bc (j + n))) (rw length-drop (omega arith)) (rw length-drop (omega arith))
+
+-- ── held
+
+case-part : (b : List ℕ) (k i n : ℕ) → i + n ≤ 64 → bytesAt (lineAt b k .case) i n ≡ bytesAt b (recordSize * k + i) n
+unfolding lineAt lineOf
+case-part b k i n h =
+    part-take (take recordSize (drop (recordSize * k) b)) i n 64 h ∙ part-take (drop (recordSize * k) b) i n recordSize (omega arith) ∙ part-drop b i n (recordSize * k)
+
+both-ways : (a b : Bool) → (a && b) ≡ (b && a)
+both-ways true true = refl
+both-ways true false = refl
+both-ways false true = refl
+both-ways false false = refl
+
+-- of two numbers read from record k and two of the case
+pub same-numbers : (b c : List ℕ) (k : ℕ) {x y h d : ℕ} → AreBytes b → AreBytes c → recordSize * k + recordSize ≤ length b → length c ≡ 64
+    → x ≡ numberAt b (recordSize * k) 4 → h ≡ numberAt c 0 4 → y ≡ numberAt b (recordSize * k + 8) 8 → d ≡ numberAt c 8 8
+    → (eqb y d && eqb x h) ≡ sameFiling (lineAt b k .case) c
+unfolding sameFiling
+same-numbers b c k {x = x₀} {y = y₀} {h = h₀} {d = d₀} bb bc hb hc x h y d =
+    both-ways (eqb y₀ d₀) (eqb x₀ h₀) ∙ rw (case-part b k 0 4 (omega arith), case-part b k 8 8 (omega arith), add-zero, x, h, y, d, same-part b c (recordSize * k) 0 4 bb bc (omega arith) (omega arith), same-part b c (recordSize * k + 8) 8 8 bb bc (omega arith) (omega arith))
+
+pub held-step : (b c : List ℕ) (n k : ℕ) → k < n → held (from b n k) c ≡ (sameFiling (lineAt b k .case) c || held (from b n (k + 1)) c)
+unfolding held
+held-step b c n k h = rw (from-cons b n k h)
+
+pub held-none : (b c : List ℕ) (n k : ℕ) → n ≤ k → held (from b n k) c ≡ false
+unfolding held
+held-none b c n k h = rw (from-end b n k h)
+
+-- ── the same filing in the fields of a case
+
+regroup : (p q r s t : Bool) → ((p && (q && (r && (s && true)))) && t) ≡ (p && (q && (r && (s && t))))
+regroup false q r s t = refl
+regroup true false r s t = refl
+regroup true true false s t = refl
+regroup true true true false t = refl
+regroup true true true true t = refl
+
+-- the fields on which two cases agree that are the same filing: kind, row, route, user, dossier number, and no other
+pub same-filing-fields : (c d : List ℕ) → AreBytes c → AreBytes d → length c ≡ 64 → length d ≡ 64
+    → sameFiling c d ≡ (eqb (kindOf c) (kindOf d) && (eqb (rowOf c) (rowOf d) && (eqb (routeOf c) (routeOf d) && (eqb (userOf c) (userOf d) && eqb (dossierOf c) (dossierOf d)))))
+unfolding sameFiling
+same-filing-fields [] d bc bd hc hd = absurd (omega arith)
+same-filing-fields (c₀ ∷ []) d bc bd hc hd = absurd (omega arith)
+same-filing-fields (c₀ ∷ c₁ ∷ []) d bc bd hc hd = absurd (omega arith)
+same-filing-fields (c₀ ∷ c₁ ∷ c₂ ∷ []) d bc bd hc hd = absurd (omega arith)
+same-filing-fields (c₀ ∷ c₁ ∷ c₂ ∷ c₃ ∷ c) [] bc bd hc hd = absurd (omega arith)
+same-filing-fields (c₀ ∷ c₁ ∷ c₂ ∷ c₃ ∷ c) (d₀ ∷ []) bc bd hc hd = absurd (omega arith)
+same-filing-fields (c₀ ∷ c₁ ∷ c₂ ∷ c₃ ∷ c) (d₀ ∷ d₁ ∷ []) bc bd hc hd = absurd (omega arith)
+same-filing-fields (c₀ ∷ c₁ ∷ c₂ ∷ c₃ ∷ c) (d₀ ∷ d₁ ∷ d₂ ∷ []) bc bd hc hd = absurd (omega arith)
+same-filing-fields (c₀ ∷ c₁ ∷ c₂ ∷ c₃ ∷ c) (d₀ ∷ d₁ ∷ d₂ ∷ d₃ ∷ d) bc bd hc hd =
+    rw (same-part (c₀ ∷ c₁ ∷ c₂ ∷ c₃ ∷ c) (d₀ ∷ d₁ ∷ d₂ ∷ d₃ ∷ d) 8 8 8 bc bd (omega arith) (omega arith))
+    (regroup (eqb c₀ d₀) (eqb c₁ d₁) (eqb c₂ d₂) (eqb c₃ d₃) (sameBytes (bytesAt (c₀ ∷ c₁ ∷ c₂ ∷ c₃ ∷ c) 8 8) (bytesAt (d₀ ∷ d₁ ∷ d₂ ∷ d₃ ∷ d) 8 8)))
