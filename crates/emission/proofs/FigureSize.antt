@@ -26,8 +26,10 @@ use Rattle.emission.specs.Figures.{exactValues, figuresOf}
 use Rattle.equations.specs.Ranges.{Within, InRange}
 use Rattle.equations.specs.Constants.{numbers}
 use Rattle.product.proofs.Ratios.{AtMost, at-most-times}
-use Rattle.equations.proofs.Chains.{others, gather, chain-at-most, remainder-at-most, term, next}
-use Rattle.emission.proofs.Accepted.{in-range, figure-rounded}
+use Rattle.equations.proofs.Chains.{others, gather}
+use Rattle.equations.proofs.Multiplied.{chain-at-most, remainder-at-most, term, next}
+use Rattle.emission.proofs.Accepted.{figure-rounded}
+use Rattle.emission.proofs.InRanges.{in-range}
 use Rattle.emission.proofs.Cases.{by-row, with-loss, of-air, of-soil, each-value}
 use Rattle.emission.proofs.Positive.{lower-not-zero}
 

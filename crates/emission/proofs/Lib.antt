@@ -1,5 +1,6 @@
 -- Laws and theorems of this crate.
 pub mod Accepted
+pub mod InRanges
 pub mod Cases
 pub mod Positive
 pub mod FigureSize

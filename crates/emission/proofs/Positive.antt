@@ -25,7 +25,7 @@ use Rattle.equations.specs.Ranges.{InRange}
 use Rattle.equations.specs.Constants.{numbers}
 use Rattle.equations.proofs.Chains.{AllPositive, emission-positive}
 use Rattle.equations.proofs.Tables.{older-positive}
-use Rattle.emission.proofs.Accepted.{in-range}
+use Rattle.emission.proofs.InRanges.{in-range}
 use Rattle.emission.proofs.Cases.{by-row, with-loss, of-air, of-soil, each-value}
 
 -- ── the rows of the paper: one computed test over each table

@@ -1,3 +1,4 @@
 -- Laws of this crate.
 pub mod Chains
+pub mod Multiplied
 pub mod Tables

@@ -20,7 +20,8 @@ use Rattle.product.specs.Chain.{Factor, number, quantity, chain}
 use Rattle.equations.specs.Equations.{applicationAt, microgram, micrograms}
 use Rattle.equations.specs.Constants.{numbers, folds, foldsAll, foldedFrom}
 use Rattle.product.proofs.Ratios.{AtMost}
-use Rattle.equations.proofs.Chains.{others, term, largest64, figure, figure-sum}
+use Rattle.equations.proofs.Chains.{others}
+use Rattle.equations.proofs.Multiplied.{term, largest64, figure, figure-sum}
 
 -- of the row that is the table's entry n
 row-constant : (equation : ℕ → List (List Factor)) (d : ℕ) (ks : List ℕ) (i : ℕ) → foldedFrom equation d i ks ≡ true → (n : ℕ) → n < length ks

@@ -18,7 +18,7 @@ use Rattle.binary64.proofs.Splice.{splice-join}
 use Rattle.records.specs.Layout.{Line, lineOf, firstLines, recordSize}
 use Rattle.listing.specs.Decimal.{decimal}
 use Rattle.listing.specs.Listing.{milligrams, columnsOf, columnsText, lineText, linesText}
-use Rattle.listing.proofs.Digits.{decimal-at-most}
+use Rattle.listing.proofs.DecimalText.{decimal-at-most}
 use Rattle.listing.proofs.Columns.{columns-are}
 
 -- ── a line

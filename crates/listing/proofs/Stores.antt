@@ -12,7 +12,7 @@ use lib.Seq.{drop-cons, getD-set-same, drop-set-lt, take-set-le}
 use Rattle.binary64.specs.Bytes.{splice}
 use Rattle.binary64.proofs.Splice.{splice-nil}
 use Rattle.listing.specs.Decimal.{character, decimal}
-use Rattle.listing.proofs.Digits.{decimal-last, decimal-more, length-more}
+use Rattle.listing.proofs.DecimalText.{decimal-last, decimal-more, length-more}
 
 pub store-last : (l : List ℕ) (at : ℕ) (vs : List ℕ) (x : ℕ) → at + length vs < length l → splice (set l (at + length vs) x) at vs ≡ splice l at (vs ++ (x ∷ []))
 unfolding splice

@@ -2,3 +2,4 @@
 pub mod Ratios
 pub mod Chains
 pub mod Limbs
+pub mod Starts

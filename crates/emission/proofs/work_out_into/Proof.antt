@@ -2,7 +2,8 @@
 use mathlib.Core.Path.{sym, _∙_}
 use denote.Ref.{now}
 use borrow.Author.Needs.{needs}
-use Rattle.emission.proofs.Accepted.{accepted-is, refused-is, in-range, figures-refused, figures-accepted}
+use Rattle.emission.proofs.Accepted.{accepted-is, refused-is, figures-refused, figures-accepted}
+use Rattle.emission.proofs.InRanges.{in-range}
 use Rattle.emission.proofs.work_out_into.Statement.{statement}
 use Rattle.emission.proofs.work_out_into.Tie as tie
 

@@ -13,7 +13,8 @@ use Rattle.product.specs.Ranges.{UpTo}
 use Rattle.equations.specs.Equations.{formulation, toWater, toAir, toSoil, micrograms}
 use Rattle.equations.specs.Ranges.{Within, InRange}
 use Rattle.equations.specs.Constants.{numbers}
-use Rattle.equations.proofs.Chains.{small, within-each, others, term, chain-at-most, largest64, figure}
+use Rattle.equations.proofs.Chains.{others}
+use Rattle.equations.proofs.Multiplied.{small, within-each, term, chain-at-most, largest64, figure}
 use Rattle.equations.proofs.formulation.Statement.{statement}
 use Rattle.equations.proofs.formulation.Tie as tie
 

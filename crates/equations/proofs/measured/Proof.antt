@@ -14,7 +14,8 @@ use Rattle.equations.specs.Equations.{measured, measuredAt, toWater}
 use Rattle.equations.specs.Ranges.{Within, InRange}
 use Rattle.equations.specs.Constants.{numbers}
 use Rattle.product.proofs.Chains.{pull, quantities-positive}
-use Rattle.equations.proofs.Chains.{others, term, next, sum-at-most, figure-sum, small, within-each}
+use Rattle.equations.proofs.Chains.{others}
+use Rattle.equations.proofs.Multiplied.{term, next, sum-at-most, figure-sum, small, within-each}
 use Rattle.product.proofs.Limbs.{up-to-largest}
 use Rattle.equations.proofs.Tables.{older-positive, older-same, figure-sum-at}
 use Rattle.equations.proofs.measured.Statement.{statement}

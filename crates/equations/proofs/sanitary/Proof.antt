@@ -11,7 +11,8 @@ use Rattle.equations.specs.Equations.{sanitary, toWater}
 use Rattle.equations.specs.Ranges.{Within, InRange}
 use Rattle.equations.specs.Constants.{numbers}
 use Rattle.product.proofs.Chains.{pull}
-use Rattle.equations.proofs.Chains.{others, term, remainder-at-most, figure, small, within-each}
+use Rattle.equations.proofs.Chains.{others}
+use Rattle.equations.proofs.Multiplied.{term, remainder-at-most, figure, small, within-each}
 use Rattle.equations.proofs.sanitary.Statement.{statement}
 use Rattle.equations.proofs.sanitary.Tie as tie
 

@@ -11,7 +11,8 @@ use Rattle.product.specs.Chain.{quantity}
 use Rattle.equations.specs.Equations.{unknown, unknownAt, toWater}
 use Rattle.equations.specs.Ranges.{Within, InRange}
 use Rattle.equations.specs.Constants.{numbers}
-use Rattle.equations.proofs.Chains.{others, term, chain-at-most, figure, small, within-each}
+use Rattle.equations.proofs.Chains.{others}
+use Rattle.equations.proofs.Multiplied.{term, chain-at-most, figure, small, within-each}
 use Rattle.equations.proofs.Tables.{figure-at}
 use Rattle.equations.proofs.unknown.Statement.{statement}
 use Rattle.equations.proofs.unknown.Tie as tie

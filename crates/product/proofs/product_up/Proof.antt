@@ -2,7 +2,7 @@
 use mathlib.Core.Path.{ap, _∙_}
 use Prim.Native.Nat.{ℕ, min}
 use borrow.Author.Needs.{needs}
-use Rattle.product.proofs.Limbs.{no-limbs, start-constant}
+use Rattle.product.proofs.Starts.{no-limbs, start-constant}
 use Rattle.product.proofs.product_up.Statement.{statement}
 use Rattle.product.proofs.product_up.Tie as tie
 

@@ -6,7 +6,8 @@ use lib.Pow.{pow-pos}
 use borrow.Author.Needs.{needs}
 use Rattle.product.specs.Ratio.{oneLess, exactly}
 use Rattle.product.specs.Chain.{chain}
-use Rattle.product.proofs.Limbs.{up-to-largest, complement-fits, start-remainder, start-times}
+use Rattle.product.proofs.Limbs.{up-to-largest}
+use Rattle.product.proofs.Starts.{complement-fits, start-remainder, start-times}
 use Rattle.product.proofs.remainder_up.Statement.{statement}
 use Rattle.product.proofs.remainder_up.Tie as tie
 

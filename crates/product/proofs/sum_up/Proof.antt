@@ -6,7 +6,7 @@ use native.Mathlib.Omega.{arith}
 use lib.Pow.{pow-pos}
 use borrow.Author.Needs.{needs}
 use Rattle.product.specs.Ratio.{_⊕_, exactly}
-use Rattle.product.proofs.Limbs.{start-sum, start-times}
+use Rattle.product.proofs.Starts.{start-sum, start-times}
 use Rattle.product.proofs.sum_up.Statement.{statement}
 use Rattle.product.proofs.sum_up.Tie as tie
 

@@ -3,7 +3,7 @@ use mathlib.Core.List.{[], _∷_}
 use native.Mathlib.Omega.{arith}
 use borrow.Author.Needs.{needs}
 use Rattle.product.specs.Ranges.{Each}
-use Rattle.product.proofs.Limbs.{no-limbs, start-shared}
+use Rattle.product.proofs.Starts.{no-limbs, start-shared}
 use Rattle.product.proofs.three_up.Statement.{statement}
 use Rattle.product.proofs.three_up.Tie as tie
 

@@ -4,7 +4,7 @@ use Prim.Native.Nat.{_+_}
 use native.Mathlib.Omega.{arith}
 use lib.ListN.{length}
 use Rattle.listing.specs.Decimal.{decimal}
-use Rattle.listing.proofs.Digits.{decimal-last, length-more, decimal-some, decimal-at-most}
+use Rattle.listing.proofs.DecimalText.{decimal-last, length-more, decimal-some, decimal-at-most}
 use Rattle.listing.proofs.decimal.decimal_length.Statement.{statement}
 use Rattle.listing.proofs.decimal.decimal_length.Tie as tie
 

@@ -6,7 +6,7 @@ use borrow.Author.Needs.{needs}
 use lib.ListN.{length, length-set}
 use Rattle.binary64.specs.Bytes.{splice}
 use Rattle.listing.specs.Decimal.{decimal}
-use Rattle.listing.proofs.Digits.{length-more, decimal-some}
+use Rattle.listing.proofs.DecimalText.{length-more, decimal-some}
 use Rattle.listing.proofs.Stores.{digit-stored, first-stored}
 use Rattle.listing.proofs.decimal.put_decimal.Statement.{statement}
 use Rattle.listing.proofs.decimal.put_decimal.Tie as tie

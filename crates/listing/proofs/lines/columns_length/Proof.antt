@@ -5,7 +5,7 @@ use native.Mathlib.Omega.{arith}
 use borrow.Author.Needs.{needs}
 use lib.ListN.{length, getD, drop}
 use Rattle.listing.specs.Listing.{columnsText}
-use Rattle.listing.proofs.Digits.{decimal-at-most}
+use Rattle.listing.proofs.DecimalText.{decimal-at-most}
 use Rattle.listing.proofs.Columns.{length-columns-step, columns-end}
 use Rattle.listing.proofs.lines.columns_length.Statement.{statement}
 use Rattle.listing.proofs.lines.columns_length.Tie as tie
