@@ -30,10 +30,14 @@ trace:
 # `rt check` proves crates side by side, `rt staticlib` one after another.
 lib:
 	@mkdir -p target
+	@echo 'lib: proving what is not proved yet, a minute or two from nothing'
 	@{ rt check emission archive && rt staticlib csorvelin; } >target/lib.log 2>&1 || { cat target/lib.log; exit 1; }
 
 c-test: lib
 	@mkdir -p target/c
+	@sed -n '/^```c$$/,/^```$$/{/^```/!p}' README.md >target/c/readme.c
+	@$(CC) $(CFLAGS) -Iinclude target/c/readme.c $(LIB) -o target/c/readme
+	@grep -qxF "    $$(target/c/readme)" README.md || { echo 'c-test: the program in README.md prints something else'; exit 1; }
 	@$(CC) $(CFLAGS) -Iinclude tests/c/interface.c $(LIB) -o target/c/interface
 	@target/c/interface >target/c/interface.out
 	@diff tests/c/interface.expected target/c/interface.out

@@ -1,4 +1,4 @@
-// Folded constants: all the numbers of a row's equation, in micrograms, as one whole number. Each table starts with row 1.
+// Folded constants: all the numbers of a row's equation as one whole number, in micrograms, so times 10^9. Each table starts with row 1.
 ghost use mathlib.Core.Path.{_≡_};
 ghost use mathlib.Core.Bool.{true};
 ghost use Prim.Native.Nat.{_≤_};

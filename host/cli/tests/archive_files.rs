@@ -76,7 +76,7 @@ fn a_record_whose_figures_were_changed_is_found_by_explain() {
     let ran = place.run(&["explain", "archive", "0"]);
     assert_eq!(ran.ends(65).err, format!("csorvelin: {fault}\n"));
     assert!(ran.out.contains("  = 1/13 kg per day\n"), "{}", ran.out);
-    assert!(ran.out.ends_with(&format!("\nChecked: {fault}.\n")), "{}", ran.out);
+    assert!(ran.out.ends_with(&format!("\nNOT THE SAME: {fault}.\n")), "{}", ran.out);
     let ran = place.run(&["explain", "archive", "0", "--json"]);
     assert!(ran.ends(65).out.ends_with(&record_json("76923076", fault)), "{}", ran.out);
     // Those that print what a record holds do not check it.

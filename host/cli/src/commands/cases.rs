@@ -70,7 +70,8 @@ pub fn explain_case(arguments: &Arguments) -> Answer {
         let sheet = Json::object([("case", describe::case_json(&case, typed)), ("sheet", explain::json(&sheet))]);
         line(with_record(sheet, stored).and("check", Some(Json::from(check))))
     } else {
-        format!("{}{}\nChecked: {check}.\n", describe::case_text(&case, typed), explain::text(&sheet))
+        let verdict = if fault.is_some() { "NOT THE SAME" } else { "Checked" };
+        format!("{}{}\n{verdict}: {check}.\n", describe::case_text(&case, typed), explain::text(&sheet))
     };
     Ok(match fault {
         Some(fault) => Output { out, err: format!("csorvelin: {fault}\n"), status: WRONG_RECORD },
