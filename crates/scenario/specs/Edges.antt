@@ -36,25 +36,30 @@ edges =
     ∷ (withFractions three-quarters two^-54 gives 0)
     ∷ []
 
--- Each listed quantity at its limit, which it may reach, with T at an end of its own. That no more is allowed stands in Passed and in emission's Ranges.
+-- the highest dossier number
+abbrev pub highest : ℕ
+highest = 18446744073709551615
+
+-- Each listed quantity at its limit, which it may reach, or at 0, with T and the dossier number at an end of their own.
+-- That no more is allowed stands in Passed and in Ranges of crate equations.
 abbrev pub ends : List Edge
 ends =
-    -- row 0, with the highest T; the fractions of kind 5 are at most 1 together
-    (caseBytes 1 0 1 0 36500 7 hundred hundred unit thousand 0 0 gives 0)
-    ∷ (caseBytes 2 0 1 0 36500 7 unit 0 unit thousand hundred five-thousand gives 0)
-    ∷ (caseBytes 3 0 1 2 100 7 unit 0 0 thousand hundred five-thousand gives 0)
-    ∷ (caseBytes 4 0 1 0 366 7 million unit unit 0 0 0 gives 0)
-    ∷ (caseBytes 5 0 1 0 366 7 million unit unit 0 0 0 gives 0)
-    ∷ (caseBytes 6 0 1 0 0 7 unit unit 0 ten-thousand hundred unit gives 0)
-    ∷ (caseBytes 7 0 1 0 100 7 unit unit five unit unit 0 gives 0)
+    -- row 0, with the highest T and dossier number; the fractions of kind 5 are at most 1 together
+    (caseBytes 1 0 1 0 36500 highest hundred hundred unit thousand 0 0 gives 0)
+    ∷ (caseBytes 2 0 1 0 36500 highest unit 0 unit thousand hundred five-thousand gives 0)
+    ∷ (caseBytes 3 0 1 2 100 highest unit 0 0 thousand hundred five-thousand gives 0)
+    ∷ (caseBytes 4 0 1 0 366 highest million unit unit 0 0 0 gives 0)
+    ∷ (caseBytes 5 0 1 0 366 highest million unit unit 0 0 0 gives 0)
+    ∷ (caseBytes 6 0 1 0 0 highest unit unit 0 ten-thousand hundred unit gives 0)
+    ∷ (caseBytes 7 0 1 0 100 highest unit unit five unit unit 0 gives 0)
     -- with the lowest
-    ∷ (caseBytes 1 0 2 0 31 7 hundred hundred unit thousand 0 0 gives 0)
-    ∷ (caseBytes 2 0 2 0 31 7 unit 0 unit thousand hundred five-thousand gives 0)
-    ∷ (caseBytes 3 0 2 1 1 7 unit 0 0 thousand hundred five-thousand gives 0)
-    ∷ (caseBytes 4 0 1 0 1 7 million unit unit 0 0 0 gives 0)
-    ∷ (caseBytes 5 0 1 0 1 7 million unit 0 unit 0 0 gives 0)
-    ∷ (caseBytes 5 0 1 0 1 7 million unit 0 0 unit 0 gives 0)
-    ∷ (caseBytes 7 0 1 0 1 7 unit unit five unit unit 0 gives 0)
+    ∷ (caseBytes 1 0 2 0 31 1 hundred hundred unit thousand 0 0 gives 0)
+    ∷ (caseBytes 2 0 2 0 31 1 unit 0 unit thousand hundred five-thousand gives 0)
+    ∷ (caseBytes 3 0 2 1 1 1 unit 0 0 thousand hundred five-thousand gives 0)
+    ∷ (caseBytes 4 0 1 0 1 1 million unit unit 0 0 0 gives 0)
+    ∷ (caseBytes 5 0 1 0 1 1 million unit 0 unit 0 0 gives 0)
+    ∷ (caseBytes 5 0 1 0 1 1 million unit 0 0 unit 0 gives 0)
+    ∷ (caseBytes 7 0 1 0 1 1 unit unit five unit unit 0 gives 0)
     -- the last of the paper's rows
     ∷ (caseBytes 1 7 2 0 0 7 hundred hundred unit 0 0 0 gives 0)
     ∷ (caseBytes 2 7 2 0 0 7 unit 0 unit 0 0 0 gives 0)
@@ -62,4 +67,18 @@ ends =
     ∷ (caseBytes 4 1 1 0 0 7 million unit unit 0 0 0 gives 0)
     ∷ (caseBytes 6 5 1 0 0 7 unit unit 0 0 0 0 gives 0)
     ∷ (caseBytes 7 1 1 0 0 7 unit unit five unit unit 0 gives 0)
+    -- the first of them, with nothing of the substance
+    ∷ (caseBytes 1 1 1 0 0 7 0 0 0 0 0 0 gives 0)
+    ∷ (caseBytes 2 1 1 0 0 7 0 0 0 0 0 0 gives 0)
+    ∷ (caseBytes 3 1 1 1 0 7 0 0 0 0 0 0 gives 0)
+    ∷ (caseBytes 4 1 1 0 0 7 0 0 0 0 0 0 gives 0)
+    ∷ (caseBytes 6 1 1 0 0 7 0 0 0 0 0 0 gives 0)
+    ∷ (caseBytes 7 1 1 0 0 7 0 0 0 0 0 0 gives 0)
+    -- the last that is not led to the rain sewer, and the first that is
+    ∷ (caseBytes 1 2 1 0 0 7 0 0 0 0 0 0 gives 0)
+    ∷ (caseBytes 2 2 1 0 0 7 0 0 0 0 0 0 gives 0)
+    ∷ (caseBytes 3 2 1 1 0 7 0 0 0 0 0 0 gives 0)
+    ∷ (caseBytes 1 3 2 0 0 7 0 0 0 0 0 0 gives 0)
+    ∷ (caseBytes 2 3 2 0 0 7 0 0 0 0 0 0 gives 0)
+    ∷ (caseBytes 3 3 2 1 0 7 0 0 0 0 0 0 gives 0)
     ∷ []
