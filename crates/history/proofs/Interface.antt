@@ -1,6 +1,6 @@
 -- Demand 3 over every history of calls of the C interface: `c-demand3`. Each such call is a turn: `c-turn`.
 -- The used length handed on is the one in the caller's variable: `c-handed-empty`, `c-handed-file`; a caller who hands on what one variable holds makes a
--- history: `c-one-variable`. So that it says something: `c-history-can` and `c-met`; that the functions ask nothing of their caller is `asks-nothing` of crate csorvelin.
+-- history, and each is one of those: `c-one-variable`, `c-in-one-variable`. So that it says something: `c-history-can` and `c-met`; that the functions ask nothing of their caller is `asks-nothing` of crate csorvelin.
 use mathlib.Core.Path.{_≡_, refl, sym, ap, _∙_, subst}
 use mathlib.Core.List.{List, []}
 use Prim.Native.Nat.{ℕ, zero, suc, _+_, _*_, _≤_}
@@ -136,6 +136,25 @@ c-one-variable {b} {u} (begins {v = v}) (more {b′ = b′} {cs = cs} {rs = rs} 
     let e : v ≡ leaves empty b u (emptied 0 v) b′ t = c-handed empty b u (emptied 0 v) b′ t h in
     let k = subst (λ (w : ℕ). Stands (length b) b′ w []) e s in
     record { given = u; run = next t (subst (λ (w : ℕ). RunBy CTurn b′ w cs rs b″ u″) (sym e) (one-variable-run h k r)); begun = begins }
+
+-- and each history is one: what is handed on is what the variable holds
+run-one-variable : {size : ℕ} {b : List ℕ} {u : ℕ} {ls : List Line} {cs : List Request} {rs : List Answer} {b″ : List ℕ} {u″ : ℕ}
+    → 16 ≤ size → Stands size b u ls → RunBy CTurn b u cs rs b″ u″ → OneVariable b u cs rs b″ u″
+run-one-variable h s done = none
+run-one-variable h s (next {b = b} {u = u} {c = c} {a = a} {b′ = b′} {cs = cs} {rs = rs} {b″ = b″} {u″ = u″} t r) =
+    let e = c-handed c b u a b′ t (rw (s .size-is) h) in
+    more {c = c} t (subst (λ (v : ℕ). OneVariable b′ v cs rs b″ u″) e (run-one-variable h (kept c s (c-turn c b u a b′ t) .stands) r))
+
+begun-one-variable : {b : List ℕ} {u : ℕ} {cs : List Request} {rs : List Answer} {b″ : List ℕ} {u″ : ℕ}
+    → BeginsEmpty cs rs → RunBy CTurn b u cs rs b″ u″ → OneVariable b u cs rs b″ u″
+begun-one-variable {b} {u} (begins {v = v}) (next {b′ = b′} {cs = cs} {rs = rs} {b″ = b″} {u″ = u″} t r) =
+    let s = first-stands (c-empty t) .2 in
+    let h : 16 ≤ length b = omega (arith, s .holds .length-is, s .holds .inside, s .size-is) in
+    let e : v ≡ leaves empty b u (emptied 0 v) b′ t = c-handed empty b u (emptied 0 v) b′ t h in
+    more t (subst (λ (w : ℕ). OneVariable b′ w cs rs b″ u″) e (run-one-variable h s r))
+
+pub c-in-one-variable : {b : List ℕ} {cs : List Request} {rs : List Answer} {b″ : List ℕ} {u″ : ℕ} (h : HistoryBy CTurn b cs rs b″ u″) → OneVariable b (h .given) cs rs b″ u″
+c-in-one-variable h = begun-one-variable (h .begun) (h .run)
 
 -- ── that there are such calls and histories
 
