@@ -12,7 +12,7 @@ pub mod rounding;
 pub mod starts;
 
 // The number in the first `start` limbs times the factors, over 2 ^ k * d, rounded up; the largest u64 where that is larger.
-// The limbs above two for each factor stay; those below hold nothing of meaning.
+// The limbs above `start` and two for each factor stay; those below hold nothing of meaning.
 pub fn chain_up(limbs: &mut [u32], start: usize, factors: &[u64], k: usize, d: u32) -> u64
     requires { ⌜ (2 * length (now factors) + start ≤ length (now limbs)) × (0 < d) ⌝ }
     ensures { λ r. ⌜ (r ≡ min 18446744073709551615 (ceiling (value (take start (now (limbs .entry))) * productOf (now (factors .entry))) (2 ^ k * d))) × (drop (start + 2 * length (now (factors .entry))) (now (limbs .exit)) ≡ drop (start + 2 * length (now (factors .entry))) (now (limbs .entry))) ⌝ }

@@ -24,7 +24,7 @@ abbrev pub foldsAll : ℕ → ℕ → List (List Factor) → Bool
 foldsAll k d [] = true
 foldsAll k d (l ∷ ls) = folds k d l && foldsAll k d ls
 
--- the constants ks over d are those of the rows from i on, and below 2 ^ 45, so that a product with one fits
+-- the constants ks over d are those of the rows from i on, and at most 2 ^ 45, so that a product with one fits
 unfoldable pub foldedFrom : (ℕ → List (List Factor)) → ℕ → ℕ → List ℕ → Bool
 foldedFrom equation d i [] = true
 foldedFrom equation d i (k ∷ ks) = (leb k (2 ^ 45) && foldsAll k d (equation i)) && foldedFrom equation d (suc i) ks

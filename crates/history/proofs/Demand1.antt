@@ -53,7 +53,7 @@ use Rattle.archive.proofs.worst.Kinds as worst-kinds
 use Rattle.archive.proofs.worst.Reads as worst-reads
 use Rattle.archive.proofs.worst.Met as worst-met
 use Rattle.archive.proofs.worst.Statement as worst-statement
-use Rattle.history.specs.Calls.{EmptyCall, FileCall, ShowCall, ShowRefusalCall, WorstCall, SameArguments, InOrder, EmptyInOrder, FileInOrder, ShowInOrder, WorstInOrder}
+use Rattle.history.specs.Calls.{WorkOutCall, EmptyCall, FileCall, ShowCall, ShowRefusalCall, WorstCall, SameArguments, InOrder, EmptyInOrder, FileInOrder, ShowInOrder, WorstInOrder}
 use Rattle.history.proofs.AnswerLaws.{of-emptying, of-filing, of-naming}
 
 -- ── the order of refusals
@@ -138,7 +138,7 @@ unfolding showPart
 show-none call told s h =
     call .kept ∙ accepted-refused (showRefusal (now (call .args .0)) (call .args .1 .0) (call .args .1 .1 .0)) _ [] (λ z. h (told-is call told s ∙ z))
 
--- Show, its companion and worst leave every byte, refused or not, and so does file of its case: what is lent to be read is not written.
+-- Show, its companion and worst leave every byte, refused or not, and so do file and work out of their case: what is lent to be read is not written.
 pub unchanged :
     ((call : EmptyCall) → (refusalIn (ofEmptied (call .result)) ≡ 0 → ⊥) → now (ends call .0) ≡ now (call .args .0))
     × ((call : FileCall) → (refusalIn (ofFiling (call .result) (call .args .1 .0)) ≡ 0 → ⊥) → now (ends call .0) ≡ now (call .args .0))
@@ -147,7 +147,8 @@ pub unchanged :
     × ((call : ShowCall) → now (ends call .0) ≡ now (call .args .0))
     × ((call : ShowRefusalCall) → now (ends call .0) ≡ now (call .args .0))
     × ((call : WorstCall) → now (ends call .0) ≡ now (call .args .0))
-unchanged = (empty-unchanged, file-unchanged, show-none, λ call. refl, λ call. refl, λ call. refl, λ call. refl)
+    × ((call : WorkOutCall) → now (ends call .0) ≡ now (call .args .0))
+unchanged = (empty-unchanged, file-unchanged, show-none, λ call. refl, λ call. refl, λ call. refl, λ call. refl, λ call. refl)
 
 -- ── the functions meet the contracts that a call goes by
 

@@ -5,5 +5,6 @@ pub mod Turns
 pub mod Demand3
 pub mod Possible
 pub mod Interface
+pub mod SingleCalls
 pub mod FreeSpace
 pub mod WorkedHistory

@@ -38,6 +38,7 @@ worked-fed =
     and (λ e. refl) and (λ e. refl) and (λ e. refl) and (λ e. refl) and (λ e. refl) and (λ e. refl) and (λ e. refl) and (λ e. refl) and (λ e. refl) and (λ e. refl) and (λ e. refl)
     and tt and tt and tt and tt and tt and tt and tt and tt and tt and tt
     and (λ e. refl) and (λ e. refl)
+    and tt and tt
     and tt
 
 pub worked-archive : archiveOf recordSize edition (lines 496 [] (map (λ (t : Told). t .call) workedHistory)) ≡ workedArchive

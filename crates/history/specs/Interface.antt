@@ -1,7 +1,7 @@
 -- Calls of the C interface as turns of a history: the buffer and the variables that the caller lends, before and after.
 -- Each has the form of its fellow in History; `used` and `number` are read from the variables.
 use mathlib.Core.Path.{_≡_}
-use mathlib.Core.List.{List}
+use mathlib.Core.List.{List, [], _∷_}
 use Prim.Native.Nat.{ℕ}
 use denote.Ref.{now}
 use Rattle.scenario.specs.Case.{refusalOf}
@@ -77,3 +77,18 @@ CTurn empty b u a b′ = CEmptyTurn b a b′
 CTurn (file c f) b u a b′ = CFileTurn c f b u a b′
 CTurn (show k) b u a b′ = CShowTurn k b u a b′
 CTurn (worst m) b u a b′ = CWorstTurn m b u a b′
+
+-- ── a caller who keeps one variable for the used length, and looks at no answer
+
+-- what the variable holds after a call that found u in it: empty and file are lent it, show and worst take what it holds
+abbrev pub leaves : (c : Request) (b : List ℕ) (u : ℕ) (a : Answer) (b′ : List ℕ) → CTurn c b u a b′ → ℕ
+leaves empty b u a b′ t = now (ends (t .call) .1 .0)
+leaves (file c f) b u a b′ t = now (ends (t .call) .1 .0)
+leaves (show k) b u a b′ t = u
+leaves (worst m) b u a b′ t = u
+
+-- As RunBy CTurn, but the next call is given what the variable holds, refused or not.
+pub data OneVariable : List ℕ → ℕ → List Request → List Answer → List ℕ → ℕ → Type 0 where
+  none : {b : List ℕ} {u : ℕ} → OneVariable b u [] [] b u
+  more : {b : List ℕ} {u : ℕ} {c : Request} {a : Answer} {b′ : List ℕ} {cs : List Request} {rs : List Answer} {b″ : List ℕ} {u″ : ℕ}
+      (t : CTurn c b u a b′) → OneVariable b′ (leaves c b u a b′ t) cs rs b″ u″ → OneVariable b u (c ∷ cs) (a ∷ rs) b″ u″

@@ -74,6 +74,9 @@ workedHistory =
     ∷ (show 0 tells shown 24 [])
     ∷ (file (sanitary 7 0) (four 76923077 0 0 0) tells filed 0 0 112)
     ∷ (file (sanitary 9 0) (four 76923077 0 0 0) tells filed 0 1 208)
+    -- another record than the first
+    ∷ (show 1 tells shown 0 (recordWith 9))
+    ∷ (show 2 tells shown 24 [])
     ∷ []
 
 -- The archive that it leaves, byte by byte: two records, and a trailer that points 192 bytes back, counts 2 and is of edition 1.

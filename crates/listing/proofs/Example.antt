@@ -1,4 +1,5 @@
 -- `printed-example`: paper 01's printed example, one record, of case P1.
+-- `printed-none`: no record, the header alone; `printed-refusal`: no byte at all, the refusal alone.
 -- `printed-columns`: two records, the columns of the first all different, so that each field is seen to stand in its own column.
 use mathlib.Core.Path.{_≡_, refl}
 use mathlib.Core.List.{List, [], _∷_}
@@ -9,7 +10,7 @@ use Rattle.scenario.specs.Builder.{caseBytes, hundred, unit}
 use Rattle.records.specs.Layout.{figureBytes, recordOf, records, trailer, archiveOf, figuresIn, lineOf, firstLines, recordSize, edition}
 use Rattle.records.specs.Buffer.{broken}
 use Rattle.listing.specs.Decimal.{digitsWithin, digits, decimal}
-use Rattle.listing.specs.Listing.{codes, header, refused, columnsOf, columnsText, lineText, linesText, listingOf}
+use Rattle.listing.specs.Listing.{codes, header, refusal, refused, columnsOf, columnsText, lineText, linesText, listingOf}
 
 abbrev pub example : List ℕ
 example = archiveOf recordSize edition (record { case = caseBytes 4 1 1 0 0 7 hundred 0 unit 0 0 0; figures = 76923077 ∷ 0 ∷ 0 ∷ 0 ∷ [] } ∷ [])
@@ -29,3 +30,11 @@ two-records =
 pub printed-columns : listingOf two-records ≡ codes "n dossier kind row route stp surface air soil\n0 12 3 4 2 6 7 8 9\n1 13 1 0 2 0 1 0 0\n"
 unfolding listingOf refused broken header codes archiveOf records recordOf figureBytes trailer caseBytes bytesOf numberAt numberOf firstLines lineOf figuresIn linesText lineText columnsText columnsOf decimal digits digitsWithin ceiling
 printed-columns = refl
+
+pub printed-none : listingOf (archiveOf recordSize edition []) ≡ codes "n dossier kind row route stp surface air soil\n"
+unfolding listingOf refused broken header codes archiveOf records trailer bytesOf numberAt numberOf firstLines linesText
+printed-none = refl
+
+pub printed-refusal : listingOf [] ≡ codes "refused 21\n"
+unfolding listingOf refused broken refusal codes numberAt numberOf
+printed-refusal = refl

@@ -1,16 +1,16 @@
 -- `passed`: a case that no refusal holds for satisfies what the record `Passed` says.
 -- A pattern's exact value and its order are in crate binary64.
 use mathlib.Core.Path.{_≡_, refl, sym, _∙_, subst}
-use mathlib.Core.Bool.{Bool, true, false, _&&_, _||_}
+use mathlib.Core.Bool.{Bool, true, false, _&&_, _||_, cond}
 use mathlib.Core.List.{List}
-use Prim.Native.Nat.{ℕ, _*_, _≤_}
+use Prim.Native.Nat.{ℕ, _*_, _≤_, _<_}
 use native.Mathlib.Omega.{arith}
 use lib.Dec.{leb, eqb}
 use lib.Ieee.{binary64, ofBits}
-use lib.ListN.{length}
+use lib.ListN.{length, getD}
 use borrow.Author.Tests.{not-false, leb-true, eqb-true, eq-eqb, ne-eqb}
 use Rattle.binary64.specs.Quantity.{whole, one}
-use Rattle.scenario.specs.Case.{Listing, unlisted, upTo, _to_, within, kinds, kindAt, countsAt, listingAt, kindOf, rowOf, routeOf, userOf, countOf, patternAt, notSixtyFour, kindUnknown, rowUnknown, routeNotAllowed, userNotAllowed, countNotAllowed, notZeroBytes, overLimit, sumWithin, sumOver, refusals, refusalOf}
+use Rattle.scenario.specs.Case.{Listing, unlisted, upTo, _to_, within, kinds, kindAt, countsAt, listingsAt, listingAt, kindOf, rowOf, routeOf, userOf, countOf, patternAt, notSixtyFour, kindUnknown, rowUnknown, routeNotAllowed, userNotAllowed, countNotAllowed, notZeroBytes, overLimit, sumWithin, sumOver, refusals, refusalOf}
 pub use Rattle.scenario.specs.Passed.{Passed}
 use Rattle.scenario.proofs.Refusals.{none-holds}
 use Rattle.scenario.proofs.KindTable.{in-range, only-zero, paper-rows-count, city-rows, city-life, other-users}
@@ -47,6 +47,19 @@ unlisted-zero : (l : Listing) (p : ℕ) → l ≡ unlisted → notZeroBytes l p 
 unfolding notZeroBytes
 unlisted-zero l p e h = eqb-true p 0 (not-false (eqb p 0) (rw e at h))
 
+-- unlisted in a kind: with row 0 and with the paper's rows; with the paper's rows alone
+unlisted-always : (k row i : ℕ) → getD (kindAt k .own) i unlisted ≡ unlisted → getD (kindAt k .row) i unlisted ≡ unlisted → listingAt k row i ≡ unlisted
+unfolding listingsAt
+unlisted-always k row i o p = go (eqb row 0)
+  where
+    go : (t : Bool) → getD (cond t (kindAt k .own) (kindAt k .row)) i unlisted ≡ unlisted
+    go true = o
+    go false = p
+
+unlisted-with-rows : (k row i : ℕ) → (row ≡ 0 → ⊥) → getD (kindAt k .row) i unlisted ≡ unlisted → listingAt k row i ≡ unlisted
+unfolding listingsAt
+unlisted-with-rows k row i h p = rw (ne-eqb row 0 h) p
+
 listed-within : (l : Listing) (n p : ℕ) → l ≡ upTo n → overLimit l p ≡ false → whole p ≤ n * one
 unfolding overLimit
 listed-within l n p e h = leb-true (whole p) (n * one) (not-false (leb (whole p) (n * one)) (rw e at h))
@@ -72,6 +85,12 @@ passed b e =
     let counts : (m : ℕ) → k ≡ m → r ≡ 0 → within (kindAt m .ownCount) t ≡ true =
     (λ m q z. subst (λ (n : ℕ). within (kindAt n .ownCount) t ≡ true) q (own-count k r t z count-test)) in
     let ways = routes k r (routeOf b) (h 3) in
+    let zeros : (i : ℕ) → i < 6 → listingAt k r i ≡ unlisted → patternAt b i ≡ 0 =
+    (λ i l q. unlisted-zero (listingAt k r i) (patternAt b i) q (none-of-six (λ j. notZeroBytes (listingAt k r j) (patternAt b j)) (h 8) i l)) in
+    let always : (m i : ℕ) → i < 6 → getD (kindAt m .own) i unlisted ≡ unlisted → getD (kindAt m .row) i unlisted ≡ unlisted → k ≡ m → patternAt b i ≡ 0 =
+    (λ m i l o p q. zeros i l (subst (λ (n : ℕ). listingAt n r i ≡ unlisted) (sym q) (unlisted-always m r i o p))) in
+    let with-rows : (m i : ℕ) → i < 6 → getD (kindAt m .row) i unlisted ≡ unlisted → k ≡ m → (r ≡ 0 → ⊥) → patternAt b i ≡ 0 =
+    (λ m i l p q z. zeros i l (subst (λ (n : ℕ). listingAt n r i ≡ unlisted) (sym q) (unlisted-with-rows m r i z p))) in
     record {
       sixty-four = eqb-true (length b) 64 (not-false _ (h 0));
       kind = kind-test;
@@ -101,7 +120,18 @@ passed b e =
       row-count = λ z. paper-count k r t z count-test;
       numbers = h 7;
       finite = each-finite (patternAt b) (h 7);
-      zero-bytes = λ i l q. unlisted-zero (listingAt k r i) (patternAt b i) q (none-of-six (λ j. notZeroBytes (listingAt k r j) (patternAt b j)) (h 8) i l);
+      zero-bytes = zeros;
+      measured-unlisted = λ q. (always 1 4 (omega arith) refl refl q, always 1 5 (omega arith) refl refl q, with-rows 1 3 (omega arith) refl q);
+      unknown-unlisted = λ q. (always 2 1 (omega arith) refl refl q, λ z. (with-rows 2 3 (omega arith) refl q z, with-rows 2 4 (omega arith) refl q z, with-rows 2 5 (omega arith) refl q z));
+      application-unlisted = λ q. (
+        always 3 1 (omega arith) refl refl q,
+        always 3 2 (omega arith) refl refl q,
+        λ z. (with-rows 3 3 (omega arith) refl q z, with-rows 3 4 (omega arith) refl q z, with-rows 3 5 (omega arith) refl q z),
+      );
+      sanitary-unlisted = λ q. (always 4 3 (omega arith) refl refl q, always 4 4 (omega arith) refl refl q, always 4 5 (omega arith) refl refl q);
+      formulation-unlisted = λ q. always 5 5 (omega arith) refl refl q;
+      hygiene-unlisted = λ q. (always 6 2 (omega arith) refl refl q, λ z. (with-rows 6 3 (omega arith) refl q z, with-rows 6 4 (omega arith) refl q z, with-rows 6 5 (omega arith) refl q z));
+      toilets-unlisted = λ q. always 7 5 (omega arith) refl refl q;
       at-most = λ i n l q. listed-within (listingAt k r i) n (patternAt b i) q (none-of-six (λ j. overLimit (listingAt k r j) (patternAt b j)) (h 9) i l);
       sum = λ q. sum-passes k (patternAt b) q (h 10);
     }

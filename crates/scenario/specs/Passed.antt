@@ -44,5 +44,13 @@ pub record Passed (b : List ℕ) : Type 0 where
   pub numbers : anyNotNumber (patternAt b) ≡ false
   pub finite : (i : ℕ) → i < 6 → isUnsignedFinite (patternAt b i) ≡ true
   pub zero-bytes : (i : ℕ) → i < 6 → listingAt (kindOf b) (rowOf b) i ≡ unlisted → patternAt b i ≡ 0
+  -- which are unlisted, by kind: a is 0, f is 5; with row 0 and the paper's rows, then with the latter alone
+  pub measured-unlisted : kindOf b ≡ 1 → (patternAt b 4 ≡ 0) × (patternAt b 5 ≡ 0) × ((rowOf b ≡ 0 → ⊥) → patternAt b 3 ≡ 0)
+  pub unknown-unlisted : kindOf b ≡ 2 → (patternAt b 1 ≡ 0) × ((rowOf b ≡ 0 → ⊥) → (patternAt b 3 ≡ 0) × (patternAt b 4 ≡ 0) × (patternAt b 5 ≡ 0))
+  pub application-unlisted : kindOf b ≡ 3 → (patternAt b 1 ≡ 0) × (patternAt b 2 ≡ 0) × ((rowOf b ≡ 0 → ⊥) → (patternAt b 3 ≡ 0) × (patternAt b 4 ≡ 0) × (patternAt b 5 ≡ 0))
+  pub sanitary-unlisted : kindOf b ≡ 4 → (patternAt b 3 ≡ 0) × (patternAt b 4 ≡ 0) × (patternAt b 5 ≡ 0)
+  pub formulation-unlisted : kindOf b ≡ 5 → patternAt b 5 ≡ 0
+  pub hygiene-unlisted : kindOf b ≡ 6 → (patternAt b 2 ≡ 0) × ((rowOf b ≡ 0 → ⊥) → (patternAt b 3 ≡ 0) × (patternAt b 4 ≡ 0) × (patternAt b 5 ≡ 0))
+  pub toilets-unlisted : kindOf b ≡ 7 → patternAt b 5 ≡ 0
   pub at-most : (i n : ℕ) → i < 6 → listingAt (kindOf b) (rowOf b) i ≡ upTo n → whole (patternAt b i) ≤ n * one
   pub sum : kindOf b ≡ 5 → sumWithin (ofBits binary64 (patternAt b 2)) (ofBits binary64 (patternAt b 3)) (ofBits binary64 (patternAt b 4)) ≡ true
