@@ -5,6 +5,8 @@ pub mod Turns
 pub mod Demand3
 pub mod Possible
 pub mod Interface
+pub mod OneVariable
+pub mod InterfacePossible
 pub mod SingleCalls
 pub mod FreeSpace
 pub mod WorkedHistory
