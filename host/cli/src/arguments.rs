@@ -28,10 +28,11 @@ pub enum Part {
 /// The text of each quantity that was typed.
 pub type Typed = [Option<String>; 6];
 
-/// A case as given: its bytes, and what was typed where it was given by fields.
+/// A case as given: its bytes, and what was typed where it was given by fields: the quantities, and the names of all fields.
 pub struct Given {
     pub bytes: Vec<u8>,
     pub typed: Option<Typed>,
+    pub named: Option<Vec<String>>,
 }
 
 const QUANTITIES: [&str; 6] = ["a", "b", "c", "d", "e", "f"];
@@ -105,7 +106,7 @@ impl Arguments {
     pub fn case(&self, read: impl Fn(&str) -> Result<Vec<u8>, Failure>) -> Result<Given, Failure> {
         match &self.case_file {
             Some(_) if !self.fields.is_empty() => usage("give fields or --case FILE, not both".to_string()),
-            Some(path) => Ok(Given { bytes: read(path)?, typed: None }),
+            Some(path) => Ok(Given { bytes: read(path)?, typed: None, named: None }),
             None if self.fields.is_empty() => {
                 usage(format!("{} needs a case: fields such as kind=4, or --case FILE", self.command))
             }
@@ -125,7 +126,8 @@ impl Arguments {
                 typed[place] = Some(value.clone());
             }
         }
-        Ok(Given { bytes: case.to_bytes().to_vec(), typed: Some(typed) })
+        let named = self.fields.iter().map(|(name, _)| name.clone()).collect();
+        Ok(Given { bytes: case.to_bytes().to_vec(), typed: Some(typed), named: Some(named) })
     }
 }
 

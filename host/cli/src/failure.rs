@@ -53,6 +53,21 @@ impl Failure {
         Output { out, err: self.text(), status }
     }
 
+    /// The refusal of a case given by the fields named: says so where the one refused is not among them, or where T is and the
+    /// row, which T goes by, is not.
+    pub fn of_fields(self, named: Option<&[String]>) -> Failure {
+        let (Failure::Refused(violation), Some(named)) = (&self, named) else { return self };
+        let missing = |name: &str| !named.iter().any(|given| given == name);
+        let found = &violation.found;
+        let found = match violation.field.as_str() {
+            "T" if missing("T") && missing("row") => format!("{found} (not given, nor is row, which counts as 0)"),
+            "T" if missing("row") => format!("{found} (row is not given and counts as 0)"),
+            field @ ("kind" | "row" | "user" | "T" | "dossier") if missing(field) => format!("{found} (not given)"),
+            _ => return self,
+        };
+        Failure::Refused(Violation { found, ..violation.clone() })
+    }
+
     /// The refusal of a case that a record holds.
     pub fn in_record(self, number: u64) -> Failure {
         match self {

@@ -196,14 +196,18 @@ fn row_7_is_said_to_be_low() {
 fn refusals_name_the_field_and_what_is_allowed() {
     let place = Place::new("refusals");
     place.write("short", &[4; 63]);
-    let refusals: [(&[&str], i32, &str, &str); 13] = [
+    let refusals: [(&[&str], i32, &str, &str); 17] = [
         (&["--case", "short"], 1, "63 bytes", "exactly 64 bytes"),
         (&["kind=8"], 2, "8", "1 to 7"),
         (&["kind=6", "row=6"], 3, "6", "0 to 5 for kind 6"),
         (&["kind=2", "row=2", "route=2"], 4, "2", "1 (to the STP) only for kind 2 row 2"),
-        (&["kind=3", "row=3"], 5, "0", "1 (professional) or 2 (not professional) for kind 3"),
-        (&["kind=1", "T=30"], 6, "30", "31 to 36500 for kind 1 row 0 (service life in days)"),
-        (&["kind=4", "row=1"], 7, "0", "1 or more"),
+        (&["kind=3", "row=3"], 5, "0 (not given)", "1 (professional) or 2 (not professional) for kind 3"),
+        (&["kind=1", "row=0", "T=30"], 6, "30", "31 to 36500 for kind 1 row 0 (service life in days)"),
+        (&["kind=4", "row=1"], 7, "0 (not given)", "1 or more"),
+        (&["kind=4", "row=1", "dossier=0"], 7, "0", "1 or more"),
+        (&["row=1"], 2, "0 (not given)", "1 to 7"),
+        (&["kind=4", "a=100"], 6, "0 (not given, nor is row, which counts as 0)", "1 to 366 for kind 4 row 0"),
+        (&["kind=4", "T=367"], 6, "367 (row is not given and counts as 0)", "1 to 366 for kind 4 row 0"),
         (&["kind=4", "row=1", "dossier=7", "f=-0"], 8, "-0 (0x8000000000000000), its sign bit is set", "a finite"),
         (&["kind=4", "row=1", "dossier=7", "a=-1.5"], 8, "-1.5 (0xbff8000000000000), its sign bit is set", "a finite"),
         (

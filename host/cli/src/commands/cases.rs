@@ -12,7 +12,8 @@ use csorvelin_model::equations::Sheet;
 
 /// The fields and figures of a case given on the command line, or its refusal.
 pub fn worked_out(given: &Given) -> Result<(Case, Figures), Failure> {
-    let figures = work_out(&given.bytes).map_err(|refusal| case_refused(refusal, &given.bytes))?;
+    let figures = work_out(&given.bytes)
+        .map_err(|refusal| case_refused(refusal, &given.bytes).of_fields(given.named.as_deref()))?;
     Ok((decoded(&given.bytes)?, figures))
 }
 
@@ -94,7 +95,7 @@ fn explained(arguments: &Arguments) -> Result<(Given, Option<Stored>), Failure> 
     let archive = archive_of(path, store::read(path)?)?;
     let number = record_number(number)?;
     let record = record_of(&archive, number)?;
-    let given = Given { bytes: record.case_bytes().to_vec(), typed: None };
+    let given = Given { bytes: record.case_bytes().to_vec(), typed: None, named: None };
     Ok((given, Some(Stored { number, figures: record.figures() })))
 }
 
