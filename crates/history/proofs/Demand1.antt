@@ -17,6 +17,7 @@ use Rattle.records.specs.Buffer.{countAt, linesIn}
 use Rattle.records.proofs.RecordLaws.{length-firstLines}
 use Rattle.records.proofs.WorstLine.{worst-is-highest}
 use Rattle.emission.specs.Called.{ends}
+use Rattle.emission.proofs.Demand2.{WorkOutCall}
 use Rattle.archive.specs.Archive.{emptyRefusals, emptyRefusal, emptying, emptyBytes, fileRefusals, fileRefusal, filing, fileBytes, showRefusals, showRefusal, showPart, worstRefusals, worstRefusal, naming}
 use Rattle.archive.specs.Answers.{ofEmptied, ofFiling, ofHighest, refusalIn}
 use Rattle.archive.proofs.Refusals.{accepted-refused}
@@ -53,7 +54,7 @@ use Rattle.archive.proofs.worst.Kinds as worst-kinds
 use Rattle.archive.proofs.worst.Reads as worst-reads
 use Rattle.archive.proofs.worst.Met as worst-met
 use Rattle.archive.proofs.worst.Statement as worst-statement
-use Rattle.history.specs.Calls.{WorkOutCall, EmptyCall, FileCall, ShowCall, ShowRefusalCall, WorstCall, SameArguments, InOrder, EmptyInOrder, FileInOrder, ShowInOrder, WorstInOrder}
+use Rattle.history.specs.Calls.{EmptyCall, FileCall, ShowCall, ShowRefusalCall, WorstCall, SameArguments, InOrder, EmptyInOrder, FileInOrder, ShowInOrder, WorstInOrder}
 use Rattle.history.proofs.AnswerLaws.{of-emptying, of-filing, of-naming}
 
 -- ── the order of refusals

@@ -1,4 +1,4 @@
--- The calls of `archive` and of work out, and what demand 1 asks of each of them.
+-- The calls of `archive`, and what demand 1 asks of each of them. A call of work out is `WorkOutCall` of emission/proofs/Demand2.
 use mathlib.Core.Path.{_≡_}
 use mathlib.Core.List.{List}
 use Prim.Native.Nat.{ℕ, _+_, _*_}
@@ -6,8 +6,6 @@ use denote.Ref.{now}
 use Rattle.binary64.specs.Bytes.{splice}
 use Rattle.scenario.specs.Refusal.{Condition, IsFirst}
 use Rattle.emission.specs.Called.{Called, ends}
-use Rattle.emission.proofs.work_out.Kinds as work-out-kinds
-use Rattle.emission.proofs.work_out.Reads as work-out-reads
 use Rattle.records.specs.Layout.{trailer, usedLength, recordSize, edition, bytesAt}
 use Rattle.records.specs.Lines.{worstOf, IsWorst}
 use Rattle.records.specs.Buffer.{countAt, linesIn, written}
@@ -26,9 +24,6 @@ use Rattle.archive.proofs.show_refusal.Kinds as show-refusal-kinds
 use Rattle.archive.proofs.show_refusal.Reads as show-refusal-reads
 use Rattle.archive.proofs.worst.Kinds as worst-kinds
 use Rattle.archive.proofs.worst.Reads as worst-reads
-
-abbrev pub WorkOutCall : Type 0
-WorkOutCall = Called 1 work-out-kinds.ps work-out-kinds.r work-out-reads.Learnt
 
 abbrev pub EmptyCall : Type 0
 EmptyCall = Called 1 empty-kinds.ps empty-kinds.r empty-reads.Learnt

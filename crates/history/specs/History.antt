@@ -7,10 +7,11 @@ use lib.ListN.{length, getD, take}
 use Rattle.scenario.specs.Case.{refusalOf}
 use Rattle.product.specs.Ratio.{_over_}
 use Rattle.emission.specs.Called.{ends}
+use Rattle.emission.proofs.Demand2.{WorkOutCall}
 use Rattle.emission.specs.Figures.{exactValues, figuresOf, WithinBounds, margin}
 use Rattle.records.specs.Layout.{Line, archiveOf, usedLength, recordSize, edition}
 use Rattle.archive.specs.Answers.{Answer, emptied, filed, shown, ofEmptied, ofFiling, ofHighest, handed}
-use Rattle.history.specs.Calls.{WorkOutCall, EmptyCall, FileCall, ShowCall, ShowRefusalCall, WorstCall, SameArguments}
+use Rattle.history.specs.Calls.{EmptyCall, FileCall, ShowCall, ShowRefusalCall, WorstCall, SameArguments}
 use Rattle.history.specs.Ledger.{Request, empty, file, show, worst, answers, lines}
 
 -- ── one call, on the buffer b at the used length u, with its answer a and the buffer b′ as it leaves it
