@@ -47,6 +47,7 @@ fn file_refusal(archive: &[u8], used: u64, case: &[u8], refusal: u32) -> u32
     if search::is_held(archive, n, case) {
         return 22;
     }
+    // No space has two reasons, each tested on its own: too few bytes, or the most records.
     if archive.len() as u64 - used < records::RECORD_SIZE as u64 {
         return 23;
     }
