@@ -36,6 +36,9 @@
 extern "C" {
 #endif
 
+/* The version of library, header and command. It stands here and nowhere else. */
+#define CSORVELIN_VERSION "1.1.0"
+
 /* Sizes in bytes. */
 #define CSORVELIN_CASE_SIZE 64
 #define CSORVELIN_RECORD_SIZE 96

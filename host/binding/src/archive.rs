@@ -54,6 +54,12 @@ impl Archive {
         &self.buffer[..self.used as usize]
     }
 
+    /// The archive's bytes, given away.
+    pub fn into_bytes(mut self) -> Vec<u8> {
+        self.buffer.truncate(self.used as usize);
+        self.buffer
+    }
+
     /// The number of records.
     pub fn len(&self) -> u64 {
         (self.used - TRAILER_BYTES as u64) / RECORD_BYTES as u64

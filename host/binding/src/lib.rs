@@ -24,3 +24,6 @@ pub mod sys;
 pub use archive::{Archive, Compartment, Record, RECORD_BYTES, TRAILER_BYTES};
 pub use case::{work_out, Case, Figures, Kind, Quantity, CASE_BYTES};
 pub use refusal::Refusal;
+
+/// The version that the C header has.
+pub const VERSION: &str = env!("CSORVELIN_VERSION");
