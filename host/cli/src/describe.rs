@@ -3,15 +3,16 @@
 use crate::arguments::Typed;
 use crate::json::Json;
 use crate::numbers;
-use csorvelin_binding::{Case, Figures};
+use csorvelin_binding::{Case, Figures, Record};
 use csorvelin_model::case::QUANTITIES;
-use csorvelin_model::{ranges, tables};
+use csorvelin_model::ranges::{self, Listed};
+use csorvelin_model::tables;
 
 pub const FIGURE_NAMES: [&str; 4] = ["stp", "surface", "air", "soil"];
 
-/// A line for each field of a case that carries something, quantities with the exact value taken. `typed` is there when
-/// the case was given by fields.
-pub fn case_text(case: &Case, typed: Option<&Typed>) -> String {
+/// A line for each field of a case that carries something, quantities with their shortest decimals and, for `exact`, with
+/// the exact values where those are others. `typed` is there when the case was given by fields.
+pub fn case_text(case: &Case, typed: Option<&Typed>, exact: bool) -> String {
     let mut text = String::new();
     let mut line = |name: &str, value: String, note: &str| {
         let line = format!("{name:<9}{value}  {note}");
@@ -33,7 +34,7 @@ pub fn case_text(case: &Case, typed: Option<&Typed>) -> String {
         if meaning.is_some() || case.patterns[index] != 0 {
             let value = match typed.map(|typed| typed[index].as_deref()) {
                 Some(None) => "0 (not given, counted as 0)".to_string(),
-                given => taken(case.patterns[index], given.flatten()),
+                given => taken(case.patterns[index], given.flatten(), exact),
             };
             line(&name.to_string(), value, &meaning.unwrap_or_default());
         }
@@ -41,24 +42,31 @@ pub fn case_text(case: &Case, typed: Option<&Typed>) -> String {
     text
 }
 
-/// A line for each quantity that the case carries and that was not typed.
-pub fn missing(case: &Case, typed: Option<&Typed>) -> String {
-    let Some(typed) = typed else {
-        return String::new();
-    };
-    let listed = ranges::listed(case.kind, case.row).into_iter().filter(|listed| typed[listed.index].is_none());
-    let notes = listed.map(|listed| {
-        let (name, meaning) = (QUANTITIES[listed.index], listed.meaning);
-        format!("csorvelin: note: {name} ({meaning}) is not given and counts as 0\n")
-    });
-    notes.collect()
+/// The quantities that the case carries and that were not typed.
+pub fn blanks(case: &Case, typed: Option<&Typed>) -> Vec<Listed> {
+    let listed = ranges::listed(case.kind, case.row).into_iter();
+    typed.map_or(vec![], |typed| listed.filter(|listed| typed[listed.index].is_none()).collect())
 }
 
-/// The exact value of a quantity, its pattern, and how it lies to the decimal that was typed.
-fn taken(pattern: u64, typed: Option<&str>) -> String {
-    let exact = numbers::exact_pattern(pattern);
+/// A quantity's name and meaning.
+pub fn named(listed: &Listed) -> String {
+    format!("{} ({})", QUANTITIES[listed.index], listed.meaning)
+}
+
+/// A line for each quantity that the case carries and that was not typed.
+pub fn missing(case: &Case, typed: Option<&Typed>) -> String {
+    let blanks = blanks(case, typed);
+    blanks.iter().map(|blank| format!("csorvelin: note: {} is not given and counts as 0\n", named(blank))).collect()
+}
+
+/// A quantity, its pattern, and how it lies to the decimal that was typed.
+fn taken(pattern: u64, typed: Option<&str>, exact: bool) -> String {
+    let mut value = numbers::shortest(pattern);
+    if exact && !numbers::shortest_is_exact(pattern) {
+        value += &format!(" = {}", numbers::exact_pattern(pattern));
+    }
     let aside = typed.and_then(|typed| numbers::deviation(typed, pattern).map(|side| format!(", {side} {typed}")));
-    format!("{exact} ({pattern:#018x}{})", aside.unwrap_or_default())
+    format!("{value} ({pattern:#018x}{})", aside.unwrap_or_default())
 }
 
 /// Meaning and unit of a quantity that the case's kind and row carry.
@@ -119,6 +127,7 @@ pub fn case_json(case: &Case, typed: Option<&Typed>) -> Json {
         let pattern = case.patterns[index];
         let value = Json::object([
             ("pattern", Json::from(format!("{pattern:#018x}"))),
+            ("shortest", Json::from(numbers::shortest(pattern))),
             ("exact", Json::from(numbers::exact_pattern(pattern))),
         ]);
         (name.to_string(), value.and("given", typed.map(|typed| Json::from(typed[index].is_some()))))
@@ -132,6 +141,15 @@ pub fn case_json(case: &Case, typed: Option<&Typed>) -> Json {
         ("dossier", Json::from(case.dossier)),
         ("quantities", Json::Object(quantities.collect())),
         ("bytes", Json::from(hex(&case.to_bytes()))),
+    ])
+}
+
+/// A record: its number, its case and what it holds for figures.
+pub fn record_json(number: u64, record: &Record) -> Json {
+    Json::object([
+        ("record", Json::from(number)),
+        ("case", case_json(&record.case(), None)),
+        ("figures", figures_json(record.figures())),
     ])
 }
 

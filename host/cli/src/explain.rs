@@ -2,7 +2,8 @@
 
 use crate::describe::{self, figure_text, FIGURE_NAMES};
 use crate::json::Json;
-use crate::numbers;
+use crate::{date, layout, numbers};
+use csorvelin_binding::VERSION;
 use csorvelin_model::equations::{product, Chain, Factor, Sheet, COMPARTMENTS};
 use csorvelin_model::ratio::Ratio;
 use csorvelin_model::tables;
@@ -10,7 +11,44 @@ use csorvelin_model::tables;
 /// Values are padded to one column up to this width.
 const MOST_PADDED: usize = 24;
 
-pub fn text(sheet: &Sheet) -> String {
+/// Where a sheet comes from: software, day, and the record, if it is one's.
+pub struct Origin {
+    printed: String,
+    record: Option<(String, u64)>,
+}
+
+impl Origin {
+    pub fn now(record: Option<(String, u64)>) -> Origin {
+        Origin { printed: date::today(), record }
+    }
+
+    fn text(&self) -> String {
+        let record = self.record.as_ref();
+        let record = record.map(|(archive, number)| format!("archive  {archive}\nrecord   {number}\n"));
+        format!("sheet    csorvelin {VERSION}, printed {} (UTC)\n{}", self.printed, record.unwrap_or_default())
+    }
+
+    /// A sheet in JSON with its origin behind it.
+    pub fn json(&self, sheet: Json) -> Json {
+        let sheet =
+            sheet.and("version", Some(Json::from(VERSION))).and("printed", Some(Json::from(self.printed.as_str())));
+        match &self.record {
+            Some((archive, number)) => {
+                sheet.and("archive", Some(Json::from(archive.as_str()))).and("record", Some(Json::from(*number)))
+            }
+            None => sheet,
+        }
+    }
+}
+
+/// The whole sheet, in lines that fit a page.
+pub fn text(origin: &Origin, case: &str, sheet: &Sheet, check: &str) -> String {
+    let text = format!("{}{case}{}\n{check}\n", origin.text(), equations_text(sheet));
+    let broken = "A number that ends in \\ goes on in the next line.\n";
+    layout::wrapped(&text) + if layout::breaks_words(&text) { broken } else { "" }
+}
+
+fn equations_text(sheet: &Sheet) -> String {
     let figures = sheet.figures();
     let mut text = format!("equation {}  (kg per day)\n         [{}]\n", sheet.equation, sheet.source);
     for (compartment, name) in COMPARTMENTS.iter().enumerate() {
@@ -23,13 +61,23 @@ pub fn text(sheet: &Sheet) -> String {
         for chain in chains {
             text += &chain_text(chain);
             if chains.len() > 1 {
-                text += &format!("  = {} kg per day, to be added\n", product(chain));
+                text += &format!("  = {} kg per day, to be added\n", with_decimal(&product(chain)));
             }
         }
         text += &rounding_text(&sheet.kilograms(compartment), &sheet.micrograms(compartment), figures[compartment]);
     }
     let note = note(sheet).map_or(String::new(), |note| format!("\nNote: {note}\n"));
     text + &note + "\n" + &documents(sheet)
+}
+
+/// A fraction with its decimal beside it; a whole number alone.
+fn with_decimal(value: &Ratio) -> String {
+    let (fraction, decimal) = (value.to_string(), numbers::decimal(value));
+    if fraction == decimal {
+        fraction
+    } else {
+        format!("{fraction} (= {decimal})")
+    }
 }
 
 /// What must be known of the row's numbers.
@@ -41,7 +89,7 @@ fn note(sheet: &Sheet) -> Option<&'static str> {
 fn chain_text(chain: &Chain) -> String {
     let width = |column: &dyn Fn(&Factor) -> String| chain.iter().map(|factor| column(factor).chars().count()).max();
     let symbols = width(&|factor| factor.symbol.clone()).unwrap_or(0);
-    let values = width(&|factor| numbers::exact(&factor.value)).unwrap_or(0).min(MOST_PADDED);
+    let values = width(&factor_value).unwrap_or(0).min(MOST_PADDED);
     let mut text = String::new();
     for (index, factor) in chain.iter().enumerate() {
         let sign = match (factor.divides, index) {
@@ -50,11 +98,21 @@ fn chain_text(chain: &Chain) -> String {
             (false, _) => "×",
         };
         let Factor { symbol, meaning, source, .. } = factor;
-        let value = numbers::exact(&factor.value);
+        let value = factor_value(factor);
         let symbol = if *symbol == value { "" } else { symbol };
         text += &format!("  {sign} {symbol:<symbols$}  {value:<values$}  {meaning}  [{source}]\n");
     }
     text
+}
+
+/// A factor's exact value: all its digits, or a fraction with its first digits beside it.
+fn factor_value(factor: &Factor) -> String {
+    let exact = numbers::exact(&factor.value);
+    if exact.contains('/') {
+        with_decimal(&factor.value)
+    } else {
+        exact
+    }
 }
 
 /// The exact fraction, and the one rounding up.
@@ -63,9 +121,9 @@ fn rounding_text(kilograms: &Ratio, micrograms: &Ratio, figure: u64) -> String {
     let exact = if rest.is_zero() {
         format!("{whole} µg per day, a whole number")
     } else {
-        format!("{whole} + {rest} µg per day, rounded up")
+        format!("{whole} + {rest} µg per day (= {}), rounded up", numbers::decimal(micrograms))
     };
-    format!("  = {kilograms} kg per day\n  = {exact}\n  figure {}\n", figure_text(figure))
+    format!("  = {} kg per day\n  = {exact}\n  figure {}\n", with_decimal(kilograms), figure_text(figure))
 }
 
 /// The titles of the documents that the sheet names.

@@ -17,13 +17,33 @@ pub enum Failure {
     Unreadable(String),
     /// Library and model differ, which the proofs exclude as long as the library and the requirements are those proved.
     Disagreement(String),
+    /// It was done, but that could not be printed, or may still be undone.
+    InDoubt(String),
     NotCreated(String),
     NotWritten(String),
     Locked(String),
+    /// An archive that its permissions keep from being written.
+    Sealed(String),
 }
 
-/// Exit status for a record whose figures are not its case's.
-pub const WRONG_RECORD: u8 = 65;
+/// Exit status where not all is in order: a record whose figures are not its case's, a case that was not imported.
+pub const NOT_IN_ORDER: u8 = 65;
+pub const UNREADABLE: u8 = 66;
+pub const DISAGREEMENT: u8 = 70;
+pub const IN_DOUBT: u8 = 71;
+
+/// The exit statuses beside 0 and the refusals' numbers.
+pub const STATUSES: [(u8, &str); 9] = [
+    (64, "usage"),
+    (NOT_IN_ORDER, "a record is not in order (explain, verify), or a case was not taken (import)"),
+    (UNREADABLE, "file not readable"),
+    (DISAGREEMENT, "library and model differ"),
+    (IN_DOUBT, "done, but the answer could not be printed, or a loss of power may undo it"),
+    (73, "file not created"),
+    (74, "file or standard output not written"),
+    (75, "archive locked by another writer"),
+    (77, "archive sealed: no write permission"),
+];
 
 impl Failure {
     fn status(&self) -> u8 {
@@ -32,11 +52,13 @@ impl Failure {
                 violation.number as u8
             }
             Failure::Usage(_) => 64,
-            Failure::Unreadable(_) => 66,
-            Failure::Disagreement(_) => 70,
+            Failure::Unreadable(_) => UNREADABLE,
+            Failure::Disagreement(_) => DISAGREEMENT,
+            Failure::InDoubt(_) => IN_DOUBT,
             Failure::NotCreated(_) => 73,
             Failure::NotWritten(_) => 74,
             Failure::Locked(_) => 75,
+            Failure::Sealed(_) => 77,
         }
     }
 
@@ -44,13 +66,13 @@ impl Failure {
     pub fn output(&self, json: bool) -> Output {
         let status = self.status();
         if json {
-            return Output { out: format!("{}\n", self.json()), err: String::new(), status };
+            return Output::from(format!("{}\n", self.json())).ending(status);
         }
         let out = match self {
             Failure::ListRefused(_) | Failure::ListTooLong(_) => "refused 21\n".to_string(),
             _ => String::new(),
         };
-        Output { out, err: self.text(), status }
+        Output::from(out).noting(self.text()).ending(status)
     }
 
     /// The refusal of a case given by the fields named: says so where the one refused is not among them, or where T is and the
@@ -99,7 +121,7 @@ impl Failure {
         }
     }
 
-    fn message(&self) -> &str {
+    pub fn message(&self) -> &str {
         match self {
             Failure::Refused(violation) | Failure::ListRefused(violation) => {
                 Refusal::from_number(violation.number).map_or("refused", Refusal::words)
@@ -108,13 +130,15 @@ impl Failure {
             Failure::Usage(message)
             | Failure::Unreadable(message)
             | Failure::Disagreement(message)
+            | Failure::InDoubt(message)
             | Failure::NotCreated(message)
             | Failure::NotWritten(message)
-            | Failure::Locked(message) => message,
+            | Failure::Locked(message)
+            | Failure::Sealed(message) => message,
         }
     }
 
-    fn json(&self) -> Json {
+    pub fn json(&self) -> Json {
         match self.violation() {
             Some(Violation { number, field, found, allowed }) => Json::object([
                 ("refused", Json::from(*number)),

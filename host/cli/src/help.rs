@@ -1,38 +1,87 @@
-//! Help texts.
+//! Help pages, made from the table of commands.
 
+use crate::arguments::{Form, Opt, EVERYWHERE, OPTIONS};
+use crate::commands::{Command, COMMANDS};
+use crate::failure::STATUSES;
+use csorvelin_binding::{Refusal, VERSION};
 use csorvelin_model::case::QUANTITIES;
 use csorvelin_model::{equations, ranges};
 
-const OVERVIEW: &str = "\
-csorvelin: daily emissions of preservatives, worked out exactly and filed
+/// The column in which the meaning of a command, option or status stands.
+const COLUMN: usize = 40;
+const OPTION_COLUMN: usize = 27;
 
-  csorvelin work-out CASE               the four figures of a case
-  csorvelin explain CASE                its calculation sheet, checked against an independent model
-  csorvelin explain ARCHIVE NUMBER      the sheet of a record
-  csorvelin case CASE [--out FILE]      its fields and 64 bytes; writes them to a new FILE
-  csorvelin new ARCHIVE                 a new archive file
-  csorvelin file ARCHIVE CASE           works a case out and files it
-  csorvelin show ARCHIVE NUMBER         a record, numbered from 0; --out FILE writes its case
-  csorvelin list ARCHIVE                all records, figures in mg (--json: µg); refuses an archive over 65,536 bytes,
-                                        with --json too, unless --all is given
-  csorvelin worst ARCHIVE COMPARTMENT   the record with the highest figure: stp, surface, air or soil (1 to 4)
-  csorvelin defaults                    the default tables with their sources
-  csorvelin help [kinds]                this page; the kinds with their fields, limits and equations
+/// What a CASE is.
+pub const CASE: &str = "\
+CASE is fields such as  kind=4 row=1 dossier=7 a=100 b=0 c=1  or  --case FILE  with 64 bytes.
+Fields are kind, row, route, user, T, dossier and a to f; csorvelin help kinds says which a kind
+has. Route is 1 unless given, the others 0. Quantities are decimals (0.71, 1e-3), taken as the
+nearest binary64 number, or patterns (0x3fe6b851eb851eb8).";
 
-CASE is fields such as  kind=4 row=1 dossier=7 a=100 c=1  or  --case FILE  with 64 bytes.
-Fields are kind, row, route, user, T, dossier and a to f. Route is 1 unless given, the others 0; a quantity that the kind
-carries and that is not given is counted as 0, and the answer says so.
-Quantities are decimals (0.71, 1e-3), taken as the nearest binary64 number, or patterns (0x3fe6b851eb851eb8).
-ARCHIVE may be - (standard input) where it is only read. --json gives every answer as JSON, 64-bit numbers as strings.
-show, list and worst print what a record holds; explain checks it.
-
-Exit status: 0; a refusal's number (1 to 12, 21 to 24); 64 usage; 65 a record's figures are not its case's (explain);
-66 file not readable; 70 library and model differ; 73 file not created; 74 file not written; 75 archive locked by
-another writer.
-";
+/// What holds of every command.
+pub const GENERAL: &str = "\
+ARCHIVE may be - (standard input) where it is only read. Words behind -- are file names, whatever
+they look like. --json gives every answer as JSON, 64-bit numbers as strings. A quantity is shown
+by the shortest decimal that reads back to it; --exact shows its exact value too.";
 
 pub fn overview() -> String {
-    OVERVIEW.to_string()
+    let mut text = format!("csorvelin {VERSION}: daily emissions of preservatives, worked out exactly and filed\n\n");
+    for command in &COMMANDS {
+        for (form, meaning) in command.forms {
+            text += &entry(&format!("csorvelin {} {form}", command.name), meaning, COLUMN);
+        }
+    }
+    text += &format!("\n{CASE}\n{GENERAL}\n\n");
+    text + "csorvelin help COMMAND has that command's options and an example.\n\n" + &statuses()
+}
+
+/// A line: what is typed, and behind it what it means.
+fn entry(typed: &str, meaning: &str, column: usize) -> String {
+    format!("  {:<width$}{meaning}\n", typed.trim_end(), width = column - 2)
+}
+
+pub fn statuses() -> String {
+    let statuses = STATUSES.iter().map(|(status, meaning)| entry(&status.to_string(), meaning, 6));
+    let refusals = "Exit status: 0, or a refusal's number (1 to 12, 21 to 24; csorvelin help refusals), or\n";
+    refusals.to_string() + &statuses.collect::<String>()
+}
+
+/// The page of one command.
+pub fn command(command: &Command) -> String {
+    let forms = command.forms.iter().map(|(form, meaning)| {
+        let typed = format!("csorvelin {} {form}", command.name);
+        format!("{}\n    {meaning}\n", typed.trim_end())
+    });
+    let mut text: String = forms.collect();
+    if !command.about.is_empty() {
+        text += &format!("\n{}\n", command.about);
+    }
+    if command.options.contains(&Opt::Case) {
+        text += &format!("\n{CASE}\n");
+    }
+    let options = options(command).map(|form| entry(&typed(form), form.meaning, OPTION_COLUMN));
+    text + "\nOptions:\n" + &options.collect::<String>() + &format!("\nExample:\n  {}\n", command.example)
+}
+
+/// The options of a command, those of every command last.
+pub fn options(command: &Command) -> impl Iterator<Item = &'static Form> + '_ {
+    OPTIONS.iter().filter(|form| command.options.contains(&form.option) || EVERYWHERE.contains(&form.option))
+}
+
+/// An option with the words that follow it.
+pub fn typed(form: &Form) -> String {
+    [&[form.name], form.values].concat().join(" ")
+}
+
+/// The refusals by number, and in which order each command looks for them.
+pub fn refusals() -> String {
+    let refusals = Refusal::ALL.iter().map(|refusal| entry(&refusal.number().to_string(), refusal.words(), 6));
+    let refusals: String = refusals.collect();
+    format!(
+        "Refusals, which are exit statuses too. The first that holds is told, in this order:\n\
+         work-out, explain and case look for 1 to 11; file for 1 to 11, 21, 22, 23; show for 21, 24;\n\
+         worst for 12, 21, 24. A refusal gives no figure and changes no byte of the archive.\n\n{refusals}"
+    )
 }
 
 /// The kinds: equation, rows, routes, and a line for each field that they carry.

@@ -26,6 +26,17 @@ impl Json {
         }
     }
 
+    /// The object with the entries of another behind its own.
+    pub fn joined(self, other: Json) -> Json {
+        match (self, other) {
+            (Json::Object(mut entries), Json::Object(further)) => {
+                entries.extend(further);
+                Json::Object(entries)
+            }
+            (object, _) => object,
+        }
+    }
+
     pub fn list(items: impl IntoIterator<Item = Json>) -> Json {
         Json::List(items.into_iter().collect())
     }

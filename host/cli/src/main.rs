@@ -4,40 +4,58 @@
 
 mod arguments;
 mod commands;
+mod csv;
+mod date;
 mod defaults;
 mod describe;
 mod explain;
 mod failure;
 mod help;
 mod json;
+mod layout;
+mod manual;
 mod numbers;
 mod output;
+mod paths;
+mod progress;
 mod refusals;
+mod sha256;
 mod steps;
 mod store;
 
 use arguments::Arguments;
 use failure::Failure;
 use output::Output;
-use std::io::{self, Write};
+use std::ffi::OsString;
+use std::io::{self, BufWriter, ErrorKind, Write};
 use std::process::ExitCode;
 
 fn main() -> ExitCode {
-    let words: Vec<String> = match std::env::args_os().skip(1).map(|word| word.into_string()).collect() {
-        Ok(words) => words,
-        Err(word) => return leave(&Failure::Usage(format!("{word:?} is not UTF-8")).output(false)),
-    };
-    let json = words.iter().any(|word| word == "--json");
+    let words: Vec<OsString> = std::env::args_os().skip(1).collect();
+    let json = words.iter().take_while(|&word| word != "--").any(|word| word == "--json");
     let answer = Arguments::parse(words).and_then(|arguments| commands::run(&arguments));
-    leave(&answer.unwrap_or_else(|failure| failure.output(json)))
+    leave(answer.unwrap_or_else(|failure| failure.output(json)))
 }
 
-fn leave(output: &Output) -> ExitCode {
+fn leave(output: Output) -> ExitCode {
+    let Output { out, err, status, done } = output;
     // Where standard error is closed there is nobody to tell.
-    let _ = io::stderr().write_all(output.err.as_bytes());
-    let mut out = io::stdout().lock();
-    match out.write_all(output.out.as_bytes()).and_then(|()| out.flush()) {
-        Ok(()) => ExitCode::from(output.status),
-        Err(error) => leave(&Failure::NotWritten(format!("standard output: {error}")).output(false)),
+    let _ = io::stderr().write_all(err.as_bytes());
+    let mut to = BufWriter::new(io::stdout().lock());
+    let written = out.write(&mut to).and_then(|()| to.flush());
+    drop(to);
+    match written {
+        Ok(()) => ExitCode::from(status),
+        Err(error) => leave(unprinted(&error, status, done)),
+    }
+}
+
+/// What is left to say where standard output takes no more. A reader that has seen enough is no failure, unless something
+/// was done of which it now does not hear.
+fn unprinted(error: &io::Error, status: u8, done: Option<String>) -> Output {
+    match done {
+        Some(done) => Failure::InDoubt(format!("{done}; the answer could not be printed: {error}")).output(false),
+        None if error.kind() == ErrorKind::BrokenPipe => Output::from(String::new()).ending(status),
+        None => Failure::NotWritten(format!("standard output: {error}")).output(false),
     }
 }

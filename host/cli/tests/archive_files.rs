@@ -36,7 +36,8 @@ fn file_list_show_and_worst() {
     }
     let sheet = place.run(&["explain", "archive", "1"]);
     assert!(sheet.ends(0).out.ends_with("the same four figures, and the record holds them.\n"), "{}", sheet.out);
-    assert!(place.run(&["list", "archive", "--json"]).ends(0).out.starts_with("{\"records\":[{\"case\":{\"kind\":4,"));
+    let json = place.run(&["list", "archive", "--json"]);
+    assert!(json.ends(0).out.starts_with("{\"records\":[{\"record\":\"0\",\"case\":{\"kind\":4,"), "{}", json.out);
 }
 
 #[test]
@@ -49,7 +50,7 @@ fn refusals_from_the_state() {
     }
     place.run(&[&["file", "archive"], &P1[..]].concat()).ends(0);
     let before = place.read("archive");
-    let held = place.run(&["file", "archive", "kind=4", "row=1", "dossier=7", "a=5"]);
+    let held = place.run(&["file", "archive", "kind=4", "row=1", "dossier=7", "a=5", "b=0", "c=0"]);
     assert!(held.ends(22).err.contains("held as record 0"), "{}", held.err);
     place.run(&["file", "archive", "kind=4", "row=1", "dossier=7", "b=2"]).ends(10);
     let ran = place.run(&["show", "archive", "1"]);
@@ -75,7 +76,7 @@ fn a_record_whose_figures_were_changed_is_found_by_explain() {
     let fault = "the record holds [76923076, 0, 0, 0] µg, its case gives [76923077, 0, 0, 0] µg";
     let ran = place.run(&["explain", "archive", "0"]);
     assert_eq!(ran.ends(65).err, format!("csorvelin: {fault}\n"));
-    assert!(ran.out.contains("  = 1/13 kg per day\n"), "{}", ran.out);
+    assert!(ran.out.contains("  = 1/13 (= 0.076923076923076923…) kg per day\n"), "{}", ran.out);
     assert!(ran.out.ends_with(&format!("\nNOT THE SAME: {fault}.\n")), "{}", ran.out);
     let ran = place.run(&["explain", "archive", "0", "--json"]);
     assert!(ran.ends(65).out.ends_with(&record_json("76923076", fault)), "{}", ran.out);
@@ -257,58 +258,6 @@ fn many_filings_one_after_another() {
     }
 }
 
-#[test]
-fn a_lock_keeps_writers_out_and_readers_not() {
-    let place = Place::new("locked");
-    place.run(&["new", "archive"]).ends(0);
-    let before = place.read("archive");
-    let file = [&["file", "archive"], &P1[..]].concat();
-    // A process that runs: this one.
-    place.write("archive.lock", format!("{}\n", std::process::id()).as_bytes());
-    let ran = place.run(&file);
-    assert!(ran.ends(75).err.contains("Try again when it is done"), "{}", ran.err);
-    place.write("archive.lock", b"");
-    assert!(place.run(&file).ends(75).err.contains("another process"));
-    assert_eq!(place.read("archive"), before);
-    assert!(place.exists("archive.lock"));
-    place.run(&["list", "archive"]).ends(0);
-    fs::remove_file(place.path("archive.lock")).unwrap();
-    place.run(&file).ends(0);
-    assert_eq!(place.names(), ["archive"]);
-}
-
-#[test]
-fn writers_at_the_same_time_lose_no_filing() {
-    let place = Place::new("writers");
-    place.run(&["new", "archive"]).ends(0);
-    let file_until_done = |dossier: u64| {
-        let dossier = format!("dossier={dossier}");
-        for _ in 0..2000 {
-            let ran = place.run(&["file", "archive", "kind=4", "row=1", "a=1", "c=1", &dossier]);
-            match ran.status {
-                Some(0) => return,
-                Some(75) => thread::sleep(Duration::from_millis(2)),
-                _ => panic!("{:?}: {}", ran.status, ran.err),
-            }
-        }
-        panic!("never got the lock");
-    };
-    thread::scope(|scope| {
-        for writer in 0..4u64 {
-            let file_until_done = &file_until_done;
-            scope.spawn(move || (1..=10).for_each(|number| file_until_done(100 * writer + number)));
-        }
-    });
-    let bytes = place.read("archive");
-    assert_eq!(archive::count(&bytes, bytes.len() as u64), Some(40));
-    let mut dossiers: Vec<u64> = bytes[..40 * 96].chunks(96).map(|r| Case::decode(&r[..64]).unwrap().dossier).collect();
-    dossiers.sort();
-    let expected: Vec<u64> = (0..4).flat_map(|writer| (1..=10).map(move |number| 100 * writer + number)).collect();
-    assert_eq!(dossiers, expected);
-    assert_eq!(place.names(), ["archive"]);
-}
-
-#[cfg(unix)]
 #[test]
 fn links_and_permissions_stay() {
     use std::os::unix::fs::PermissionsExt;

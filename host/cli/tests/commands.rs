@@ -10,7 +10,7 @@ fn with<'a>(command: &'a str, fields: &[&'a str]) -> Vec<&'a str> {
 #[test]
 fn work_out_prints_the_values_taken_and_the_figures() {
     let place = Place::new("work_out");
-    let ran = place.run(&with("work-out", &P1));
+    let ran = place.run(&with("work-out", &SHORT));
     let expected = "\
 kind     4  sanitary use, by tonnage
 row      1  defaults of the document
@@ -29,6 +29,9 @@ soil     0 µg per day = 0.000 mg = 0.000000000 kg
     assert_eq!((ran.out.as_str(), ran.err.as_str()), (expected, NOTE));
 }
 
+/// P1 without the fraction that is 0.
+const SHORT: [&str; 5] = ["kind=4", "row=1", "dossier=7", "a=100", "c=1"];
+
 /// What is said of P1's fraction that is not typed.
 const NOTE: &str = "csorvelin: note: b (fraction disintegrated) is not given and counts as 0\n";
 const MARK: &str = "b        0 (not given, counted as 0)  fraction disintegrated\n";
@@ -37,15 +40,16 @@ const MARK: &str = "b        0 (not given, counted as 0)  fraction disintegrated
 fn a_quantity_that_is_not_given_is_never_silent() {
     let place = Place::new("not_given");
     place.run(&["new", "archive"]).ends(0);
-    let commands: [(&[&str], &str); 4] = [
-        (&["work-out"], NOTE),
-        (&["case", "--out", "p1.case"], NOTE),
-        (&["file", "archive"], NOTE),
-        (&["explain"], ""),
+    let commands: [&[&str]; 5] = [
+        &["work-out"],
+        &["explain"],
+        &["case"],
+        &["case", "--out", "p1.case", "--blank-as-zero"],
+        &["file", "archive", "--blank-as-zero"],
     ];
-    for (command, note) in commands {
-        let ran = place.run(&[command, &P1[..]].concat());
-        assert_eq!((ran.ends(0).out.matches("not given").count(), ran.err.as_str()), (1, note), "{command:?}");
+    for command in commands {
+        let ran = place.run(&[command, &SHORT[..]].concat());
+        assert_eq!((ran.ends(0).out.matches("not given").count(), ran.err.as_str()), (1, NOTE), "{command:?}");
         assert!(ran.out.contains(MARK), "{}", ran.out);
     }
     // The same bytes from a file or a record were not typed, so nothing of them was forgotten.
@@ -65,18 +69,14 @@ fn a_quantity_that_is_not_given_is_never_silent() {
 #[test]
 fn json_says_which_quantities_were_given() {
     let place = Place::new("not_given_json");
-    let ran = place.run(&[&["work-out", "--json"], &P1[..]].concat());
+    let ran = place.run(&[&["work-out", "--json"], &SHORT[..]].concat());
     assert_eq!(ran.ends(0).err, NOTE);
-    assert!(
-        ran.out.contains("\"a\":{\"pattern\":\"0x4059000000000000\",\"exact\":\"100\",\"given\":true}"),
-        "{}",
-        ran.out
-    );
-    assert!(
-        ran.out.contains("\"b\":{\"pattern\":\"0x0000000000000000\",\"exact\":\"0\",\"given\":false}"),
-        "{}",
-        ran.out
-    );
+    for quantity in [
+        "\"a\":{\"pattern\":\"0x4059000000000000\",\"shortest\":\"100\",\"exact\":\"100\",\"given\":true}",
+        "\"b\":{\"pattern\":\"0x0000000000000000\",\"shortest\":\"0\",\"exact\":\"0\",\"given\":false}",
+    ] {
+        assert!(ran.out.contains(quantity), "{}", ran.out);
+    }
     place.run(&[&["case", "--out", "p1.case"], &P1[..]].concat()).ends(0);
     let ran = place.run(&["work-out", "--json", "--case", "p1.case"]);
     assert!(!ran.ends(0).out.contains("given"), "{}", ran.out);
@@ -85,11 +85,20 @@ fn json_says_which_quantities_were_given() {
 #[test]
 fn a_decimal_between_two_doubles_is_said_to_be_below_or_above() {
     let place = Place::new("decimals");
-    let ran = place.run(&["work-out", "kind=6", "row=1", "dossier=7", "a=0.71", "b=0.1"]);
+    let case = ["work-out", "kind=6", "row=1", "dossier=7", "a=0.71", "b=0.1"];
+    let ran = place.run(&case);
     ran.ends(0);
-    let taken = "0.70999999999999996447286321199499070644378662109375 (0x3fe6b851eb851eb8, below 0.71)";
-    assert!(ran.out.contains(taken), "{}", ran.out);
-    assert!(ran.out.contains("(0x3fb999999999999a, above 0.1)"), "{}", ran.out);
+    assert!(ran.out.contains("a        0.71 (0x3fe6b851eb851eb8, below 0.71)  "), "{}", ran.out);
+    assert!(ran.out.contains("b        0.1 (0x3fb999999999999a, above 0.1)  "), "{}", ran.out);
+    let exact = place.run(&[&case[..], &["--exact"]].concat());
+    let taken = "0.71 = 0.70999999999999996447286321199499070644378662109375 (0x3fe6b851eb851eb8, below 0.71)";
+    assert!(exact.ends(0).out.contains(taken), "{}", exact.out);
+    let exact = place.run(&["work-out", "kind=6", "row=1", "dossier=7", "a=0.75", "b=5e-324", "--exact"]);
+    for taken in
+        ["a        0.75 (0x3fe8000000000000)  ", "b        5e-324 = 1/2^1074 (0x0000000000000001, below 5e-324)"]
+    {
+        assert!(exact.ends(0).out.contains(taken), "{}", exact.out);
+    }
     let by_pattern = place.run(&["work-out", "kind=6", "row=1", "dossier=7", "a=0x3fe6b851eb851eb8", "b=1e-1"]);
     let figures = |text: &str| text.split_once("\n\n").unwrap().1.to_string();
     assert_eq!(figures(&by_pattern.ends(0).out), figures(&ran.out));
@@ -111,8 +120,8 @@ To the sewage treatment plant (STP):
   × 1 − b  1      b is the fraction disintegrated  [case]
   × c      1      fraction to water  [case]
   / D      260    emission days per year  [002, 2.1.4.2, l. 293]
-  = 1/13 kg per day
-  = 76923076 + 12/13 µg per day, rounded up
+  = 1/13 (= 0.076923076923076923…) kg per day
+  = 76923076 + 12/13 µg per day (= 76923076.923076923…), rounded up
   figure 76923077 µg per day = 76923.077 mg = 0.076923077 kg
 
 To surface water: no equation, figure 0
@@ -121,8 +130,8 @@ To air: no equation, figure 0
 
 To soil: no equation, figure 0
 
-002  Emission Scenario Document for Product Type 2, Private and public health area disinfectants and other biocidal \
-products, EUR 25115 EN, JRC, 2011, ISBN 978-92-79-22399-0, doi:10.2788/29058
+002  Emission Scenario Document for Product Type 2, Private and public health area disinfectants and
+         other biocidal products, EUR 25115 EN, JRC, 2011, ISBN 978-92-79-22399-0, doi:10.2788/29058
 
 Checked: the library and the model give the same four figures.
 ";
@@ -135,14 +144,14 @@ Checked: the library and the model give the same four figures.
 fn sheets_of_every_kind_name_the_exact_fraction() {
     let place = Place::new("explain_kinds");
     let sheets: [(&[&str], &str); 8] = [
-        (&["kind=2", "row=3", "a=0.015625", "c=1"], "= 875/584 kg per day\n"),
-        (&["kind=3", "row=3", "user=1", "a=0.015625"], "= 61523437 + 1/2 µg per day, rounded up\n"),
+        (&["kind=2", "row=3", "a=0.015625", "c=1"], "= 875/584 (= 1.4982876712328767…) kg per day\n"),
+        (&["kind=3", "row=3", "user=1", "a=0.015625"], "= 61523437 + 1/2 µg per day (= 61523437.5), rounded up\n"),
         (&["kind=3", "row=7", "user=2", "a=0.015625"], "= 145468750 µg per day, a whole number\n"),
-        (&["kind=1", "row=4", "a=0.0009765625", "b=0.001953125", "c=1"], "= 1671/46720 kg per day\n"),
-        (&["kind=6", "row=1", "a=0.015625", "b=0.5"], "= 213/3200 kg per day\n"),
-        (&["kind=7", "row=1", "a=0.03125", "b=0.25", "c=1", "e=1"], "= 125/24 kg per day\n"),
+        (&["kind=1", "row=4", "a=0.0009765625", "b=0.001953125", "c=1"], "= 1671/46720 (= 0.0357662671232876"),
+        (&["kind=6", "row=1", "a=0.015625", "b=0.5"], "= 213/3200 (= 0.0665625) kg per day\n"),
+        (&["kind=7", "row=1", "a=0.03125", "b=0.25", "c=1", "e=1"], "= 125/24 (= 5.2083333333333333…) kg per day\n"),
         (&["kind=5", "T=250", "a=16", "b=0.125", "c=0.5", "d=0.25", "e=0.125"], "= 2 kg per day\n"),
-        (&["kind=1", "row=0", "T=31", "a=1", "b=1", "c=1", "d=1"], "= 8000/31 kg per day\n"),
+        (&["kind=1", "row=0", "T=31", "a=1", "b=1", "c=1", "d=1"], "= 8000/31 (= 258.06451612903225…) kg per day\n"),
     ];
     for (fields, line) in sheets {
         let ran = place.run(&[&["explain", "dossier=7"], fields].concat());
@@ -161,13 +170,15 @@ fn sheets_say_what_no_document_prints() {
         "service life, days  [001, Table 1, l. 162–164, and Table 2, l. 238–239]",
         "\n\n001  \"Leaching from paints, plasters, and fillers applied in urban areas\" (the city scenario)",
     ];
+    // A long line goes on, indented, in the next one.
+    let unbroken = |text: &str| text.replace("\n         ", " ");
     for part in parts {
-        assert!(leaching.ends(0).out.contains(part), "{part}\n{}", leaching.out);
+        assert!(unbroken(&leaching.ends(0).out).contains(part), "{part}\n{}", leaching.out);
     }
     assert!(!leaching.out.contains("\n000  "), "a document that the sheet does not name\n{}", leaching.out);
     let hygiene = place.run(&["explain", "kind=6", "row=1", "dossier=7", "a=1", "b=1"]);
     for part in ["l. 2020; grams by Table 8, l. 753]", "[000, Table 8, l. 777: 10^-6 with C in g/kg (l. 747)]"] {
-        assert!(hygiene.ends(0).out.contains(part), "{part}\n{}", hygiene.out);
+        assert!(unbroken(&hygiene.ends(0).out).contains(part), "{part}\n{}", hygiene.out);
     }
 }
 
@@ -237,18 +248,17 @@ fn refusals_name_the_field_and_what_is_allowed() {
 #[test]
 fn a_case_file_is_written_and_read_back() {
     let place = Place::new("case_file");
-    let whole = [&P1[..], &["b=0"]].concat();
-    let ran = place.run(&[&["case", "--out", "p1.case"], &whole[..]].concat());
+    let ran = place.run(&[&["case", "--out", "p1.case"], &P1[..]].concat());
     let hex = "04010100000000000700000000000000\
                00000000000059400000000000000000000000000000f03f000000000000000000000000000000000000000000000000";
     assert!(ran.ends(0).out.ends_with(&format!("bytes    {hex}\n")), "{}", ran.out);
     assert_eq!(place.read("p1.case").len(), 64);
     assert_eq!(place.names(), ["p1.case"]);
     let by_file = place.run(&["work-out", "--case", "p1.case"]);
-    assert_eq!(by_file.ends(0).out, place.run(&with("work-out", &whole)).out);
+    assert_eq!(by_file.ends(0).out, place.run(&with("work-out", &P1)).out);
     // An existing file is never written over.
     let before = place.read("p1.case");
-    place.run(&["case", "kind=4", "row=1", "dossier=8", "--out", "p1.case"]).ends(73);
+    place.run(&["case", "kind=4", "row=1", "dossier=8", "--out", "p1.case", "--blank-as-zero"]).ends(73);
     assert_eq!(place.read("p1.case"), before);
 }
 
@@ -265,6 +275,9 @@ fn json_answers() {
     assert!(ran.ends(64).out.starts_with("{\"error\":64,"), "{}", ran.out);
 }
 
+const COMMANDS: [&str; 12] =
+    ["work-out", "explain", "case", "new", "file", "import", "show", "list", "worst", "verify", "defaults", "help"];
+
 #[test]
 fn defaults_and_help() {
     let place = Place::new("defaults");
@@ -272,11 +285,19 @@ fn defaults_and_help() {
     for part in ["5.57", "list of advised defaults, l. 112", "0.71", "l. 2020", "version 6, 12 November 2015", "260"] {
         assert!(defaults.ends(0).out.contains(part), "{part}");
     }
-    for words in [&["help"][..], &["--help"], &["help", "work-out"], &["work-out", "--help"], &["file", "z", "-h"]] {
+    for words in [&["help"][..], &["--help"], &["-h"]] {
         let help = place.run(words);
-        for command in ["work-out", "explain", "case", "new", "file", "show", "list", "worst", "defaults", "help"] {
-            assert!(help.ends(0).out.contains(&format!("csorvelin {command}")), "{command}");
+        for command in COMMANDS {
+            assert!(help.ends(0).out.contains(&format!("\n  csorvelin {command} ")), "{command}");
         }
+    }
+    // A command's own page, with an example that runs.
+    for command in COMMANDS {
+        let page = place.run(&["help", command]);
+        assert!(page.ends(0).out.starts_with(&format!("csorvelin {command}")), "{}", page.out);
+        assert!(page.out.contains(&format!("\nExample:\n  csorvelin {command}")), "{}", page.out);
+        assert_eq!(place.run(&[command, "--help"]).ends(0).out, page.out);
+        assert_eq!(place.run(&[command, "z", "-h"]).ends(0).out, page.out);
     }
     let kinds = place.run(&["help", "kinds"]);
     let parts = [
@@ -338,7 +359,7 @@ fn usage_errors_end_with_64() {
     assert!(ran.err.starts_with("csorvelin: file needs an archive file, not standard input\n"), "{}", ran.err);
     place.run(&["work-out", "--case", "missing"]).ends(66);
     place.run(&["list", "missing"]).ends(66);
-    place.run(&["file", "missing", "kind=4", "row=1", "dossier=7"]).ends(66);
+    place.run(&[&["file", "missing"], &P1[..]].concat()).ends(66);
     place.run(&["new", "missing/archive"]).ends(73);
 }
 

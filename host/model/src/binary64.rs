@@ -1,4 +1,5 @@
-//! The exact value of an IEEE 754 binary64 pattern, and the rounded sum, both worked out without any float.
+//! The exact value of an IEEE 754 binary64 pattern, and the rounded sum, both worked out without any float; and a
+//! pattern's shortest decimal, for which the machine's floats serve.
 
 use crate::natural::Natural;
 use crate::ratio::Ratio;
@@ -38,6 +39,16 @@ pub fn exact(pattern: u64) -> Ratio {
     let upper = over_2_1074(pattern);
     let twos = if upper.is_zero() { 1074 } else { upper.twos().min(1074) };
     Ratio::new(upper.shifted_down(twos), Natural::power_of_two(1074 - twos))
+}
+
+/// The shortest decimal that reads back to the same pattern, with an exponent where it is small or large.
+pub fn shortest(pattern: u64) -> String {
+    let value = f64::from_bits(pattern);
+    if value == 0.0 || (1e-6..1e16).contains(&value) {
+        value.to_string()
+    } else {
+        format!("{value:e}")
+    }
 }
 
 /// The pattern nearest to a whole number over 2^1074, to even on a tie. The number must not be beyond the format.

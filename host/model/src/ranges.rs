@@ -270,7 +270,7 @@ fn unlisted_not_zero(case: &Case) -> Option<Violation> {
     let names: Vec<String> = listed.iter().map(|quantity| QUANTITIES[quantity.index].to_string()).collect();
     let allowed =
         format!("zero: kind {} row {} carries {} and no other quantity", case.kind, case.row, names.join(", "));
-    violated(9, &QUANTITIES[index].to_string(), written(case.patterns[index]), allowed)
+    violated(9, &QUANTITIES[index].to_string(), binary64::shortest(case.patterns[index]), allowed)
 }
 
 fn over_limit(case: &Case) -> Option<Violation> {
@@ -279,7 +279,7 @@ fn over_limit(case: &Case) -> Option<Violation> {
     let unit = if over.unit.is_empty() { String::new() } else { format!(" {}", over.unit) };
     let allowed = format!("0 to {}{unit} for kind {} ({})", over.limit, case.kind, over.meaning);
     let name = QUANTITIES[over.index].to_string();
-    violated(10, &name, written(case.patterns[over.index]), allowed)
+    violated(10, &name, binary64::shortest(case.patterns[over.index]), allowed)
 }
 
 fn sum_over_one(case: &Case) -> Option<Violation> {
@@ -290,7 +290,7 @@ fn sum_over_one(case: &Case) -> Option<Violation> {
     if binary64::exact(sum) <= Ratio::whole(1) {
         return None;
     }
-    violated(11, "(c + d) + e", written(sum), "at most 1, each addition rounded in binary64".to_string())
+    violated(11, "(c + d) + e", binary64::shortest(sum), "at most 1, each addition rounded in binary64".to_string())
 }
 
 /// Kind 5's sum (c + d) + e, both additions rounded.
@@ -304,18 +304,12 @@ fn written_with_sign(pattern: u64) -> String {
     let magnitude = pattern & !binary64::SIGN;
     let sign = if binary64::sign(pattern) { "-" } else { "" };
     if binary64::is_quantity(magnitude) {
-        format!("{sign}{}", written(magnitude))
+        format!("{sign}{}", binary64::shortest(magnitude))
     } else if magnitude == binary64::INFINITY {
         format!("{sign}infinity")
     } else {
         "not a number".to_string()
     }
-}
-
-/// A quantity's exact value for a message: all digits of the decimal, or a fraction where those are many.
-fn written(pattern: u64) -> String {
-    let value = binary64::exact(pattern);
-    value.exact_decimal(80).unwrap_or_else(|| value.to_string())
 }
 
 #[cfg(test)]

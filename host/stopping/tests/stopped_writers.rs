@@ -1,6 +1,7 @@
 //! A writer stopped before each of its file-system steps: the file is always the old archive or the new one, whole, and
 //! the next writer can go on once the lock is removed.
 
+#[path = "../../cli/tests/common/mod.rs"]
 mod common;
 use common::{archive_of, with, Place, Ran};
 use csorvelin_differential::{cases, random::Random};

@@ -1,12 +1,14 @@
 //! The commands on a case: work-out, explain, case.
 
-use super::{archive_of, line, record_number, record_of, Answer};
-use crate::arguments::{Arguments, Given, Part};
-use crate::failure::{Failure, WRONG_RECORD};
+use super::{archive_of, line, record_number, record_of, with_case_written, Answer};
+use crate::arguments::{Arguments, Given, Opt, Typed};
+use crate::explain::{self, Origin};
+use crate::failure::{Failure, NOT_IN_ORDER};
 use crate::json::Json;
 use crate::output::Output;
+use crate::paths::shown;
 use crate::refusals::case_refused;
-use crate::{describe, explain, store};
+use crate::{describe, store};
 use csorvelin_binding::{work_out, Case, Figures, Refusal, CASE_BYTES};
 use csorvelin_model::equations::Sheet;
 
@@ -24,36 +26,43 @@ fn decoded(bytes: &[u8]) -> Result<Case, Failure> {
     }
 }
 
+/// Refuses a case that is to be kept, unless all its quantities are given or blanks are said to be zeros.
+pub fn complete(arguments: &Arguments, case: &Case, typed: Option<&Typed>) -> Result<(), Failure> {
+    match blank(case, typed) {
+        Some(blank) if !arguments.has(Opt::BlankAsZero) => {
+            Err(Failure::Usage(format!("{blank}; give what is missing, or --blank-as-zero to have it counted as 0")))
+        }
+        _ => Ok(()),
+    }
+}
+
+/// Which quantities that the case carries are not given.
+pub fn blank(case: &Case, typed: Option<&Typed>) -> Option<String> {
+    let names: Vec<String> = describe::blanks(case, typed).iter().map(describe::named).collect();
+    (!names.is_empty()).then(|| format!("not given: {}", names.join(", ")))
+}
+
 pub fn work_out_case(arguments: &Arguments) -> Answer {
-    arguments.takes(&[Part::Case])?;
-    let [] = arguments.places("CASE")?;
-    let given = arguments.case(store::read)?;
+    let [] = arguments.places()?;
+    let given = arguments.case()?;
     let typed = given.typed.as_ref();
     let (case, figures) = worked_out(&given)?;
-    let text = if arguments.json {
+    let text = if arguments.json() {
         line(Json::object([("case", describe::case_json(&case, typed)), ("figures", describe::figures_json(figures))]))
     } else {
-        describe::case_text(&case, typed) + "\n" + &describe::figures_text(figures)
+        describe::case_text(&case, typed, arguments.has(Opt::Exact)) + "\n" + &describe::figures_text(figures)
     };
     Ok(Output::from(text).noting(describe::missing(&case, typed)))
 }
 
-/// What a record holds beside its case.
+/// The record that a case was taken from.
 struct Stored {
+    archive: String,
     number: u64,
     figures: Figures,
 }
 
-impl Stored {
-    /// How the record differs from the figures of its case.
-    fn fault(&self, figures: Figures) -> Option<String> {
-        let (record, case) = (in_words(self.figures), in_words(figures));
-        (self.figures != figures).then(|| format!("the record holds {record}, its case gives {case}"))
-    }
-}
-
 pub fn explain_case(arguments: &Arguments) -> Answer {
-    arguments.takes(&[Part::Case])?;
     let (given, stored) = explained(arguments)?;
     let (stored, typed) = (stored.as_ref(), given.typed.as_ref());
     let (case, figures) = worked_out(&given).map_err(|failure| match stored {
@@ -61,46 +70,52 @@ pub fn explain_case(arguments: &Arguments) -> Answer {
         None => failure,
     })?;
     let sheet = agreed_sheet(&given.bytes, figures)?;
-    let fault = stored.and_then(|stored| stored.fault(figures));
+    let fault = stored.and_then(|stored| fault(stored.figures, figures));
     let check = match (&fault, stored) {
         (Some(fault), _) => fault,
         (None, Some(_)) => "the library and the model give the same four figures, and the record holds them",
         (None, None) => "the library and the model give the same four figures",
     };
-    let out = if arguments.json {
+    let origin = Origin::now(stored.map(|stored| (stored.archive.clone(), stored.number)));
+    let out = if arguments.json() {
         let sheet = Json::object([("case", describe::case_json(&case, typed)), ("sheet", explain::json(&sheet))]);
-        line(with_record(sheet, stored).and("check", Some(Json::from(check))))
+        let stored = stored.map(|stored| describe::figures_json(stored.figures));
+        line(origin.json(sheet).and("stored", stored).and("check", Some(Json::from(check))))
     } else {
         let verdict = if fault.is_some() { "NOT THE SAME" } else { "Checked" };
-        format!("{}{}\n{verdict}: {check}.\n", describe::case_text(&case, typed), explain::text(&sheet))
+        explain::text(&origin, &describe::case_text(&case, typed, true), &sheet, &format!("{verdict}: {check}."))
     };
+    let output = Output::from(out).noting(describe::missing(&case, typed));
     Ok(match fault {
-        Some(fault) => Output { out, err: format!("csorvelin: {fault}\n"), status: WRONG_RECORD },
-        None => out.into(),
+        Some(fault) => output.noting(format!("csorvelin: {fault}\n")).ending(NOT_IN_ORDER),
+        None => output,
     })
 }
 
-fn with_record(sheet: Json, stored: Option<&Stored>) -> Json {
-    let number = stored.map(|stored| Json::from(stored.number));
-    sheet.and("record", number).and("stored", stored.map(|stored| describe::figures_json(stored.figures)))
+/// How what a record holds differs from the figures of its case.
+pub fn fault(stored: Figures, figures: Figures) -> Option<String> {
+    let (record, case) = (in_words(stored), in_words(figures));
+    (stored != figures).then(|| format!("the record holds {record}, its case gives {case}"))
 }
 
-/// The case to be explained, and what the record holds that it was taken from.
+/// The case to be explained, and the record that it was taken from.
 fn explained(arguments: &Arguments) -> Result<(Given, Option<Stored>), Failure> {
     if arguments.places.is_empty() {
-        return Ok((arguments.case(store::read)?, None));
+        return Ok((arguments.case()?, None));
     }
-    arguments.takes(&[])?;
-    let [path, number] = arguments.places("CASE, or ARCHIVE NUMBER")?;
-    let archive = archive_of(path, store::read(path)?)?;
+    if !arguments.fields.is_empty() || arguments.has(Opt::Case) {
+        return arguments.wrong_places();
+    }
+    let [path, number] = arguments.places()?;
+    let archive = archive_of(path, store::read_archive(path)?)?;
     let number = record_number(number)?;
     let record = record_of(&archive, number)?;
     let given = Given { bytes: record.case_bytes().to_vec(), typed: None, named: None };
-    Ok((given, Some(Stored { number, figures: record.figures() })))
+    Ok((given, Some(Stored { archive: shown(path), number, figures: record.figures() })))
 }
 
 /// The model's sheet of a case, which must have the library's figures.
-fn agreed_sheet(case: &[u8], figures: Figures) -> Result<Sheet, Failure> {
+pub fn agreed_sheet(case: &[u8], figures: Figures) -> Result<Sheet, Failure> {
     let sheet = Sheet::of(case).map_err(|violation| {
         Failure::Disagreement(format!("the model refuses this case with {}, the library does not", violation.number))
     })?;
@@ -117,18 +132,19 @@ fn in_words(figures: Figures) -> String {
 }
 
 pub fn describe_case(arguments: &Arguments) -> Answer {
-    arguments.takes(&[Part::Case, Part::Out])?;
-    let [] = arguments.places("CASE")?;
-    let given = arguments.case(store::read)?;
+    let [] = arguments.places()?;
+    let given = arguments.case()?;
     let typed = given.typed.as_ref();
     let (case, _) = worked_out(&given)?;
-    if let Some(path) = &arguments.out {
-        store::create(path, &given.bytes)?;
+    // A file of 64 bytes does not tell a blank from a zero to whoever files it.
+    if arguments.has(Opt::Out) {
+        complete(arguments, &case, typed)?;
     }
-    let text = if arguments.json {
+    let text = if arguments.json() {
         line(describe::case_json(&case, typed))
     } else {
-        format!("{}bytes    {}\n", describe::case_text(&case, typed), describe::hex(&given.bytes))
+        let text = describe::case_text(&case, typed, arguments.has(Opt::Exact));
+        format!("{text}bytes    {}\n", describe::hex(&given.bytes))
     };
-    Ok(Output::from(text).noting(describe::missing(&case, typed)))
+    with_case_written(arguments, &given.bytes, Output::from(text).noting(describe::missing(&case, typed)))
 }

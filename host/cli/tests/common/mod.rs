@@ -1,4 +1,4 @@
-//! Running the command in a directory of its own.
+//! Running the command in a directory of its own: `csorvelin`, or in the package `stopping` the one with stops.
 #![allow(dead_code)]
 
 use csorvelin_differential::{cases, random::Random};
@@ -9,7 +9,13 @@ use std::path::{Path, PathBuf};
 use std::process::{Command, Output, Stdio};
 
 /// The case of P1 as fields.
-pub const P1: [&str; 5] = ["kind=4", "row=1", "dossier=7", "a=100", "c=1"];
+pub const P1: [&str; 6] = ["kind=4", "row=1", "dossier=7", "a=100", "b=0", "c=1"];
+
+/// The command that is tested.
+pub fn program() -> &'static Path {
+    let stopping = option_env!("CARGO_BIN_EXE_csorvelin-stopping");
+    Path::new(option_env!("CARGO_BIN_EXE_csorvelin").or(stopping).expect("set by cargo for tests"))
+}
 
 /// A directory for one test, empty at its start.
 pub struct Place {
@@ -49,7 +55,7 @@ impl Place {
     }
 
     pub fn command(&self, words: &[&str]) -> Command {
-        let mut command = Command::new(env!("CARGO_BIN_EXE_csorvelin"));
+        let mut command = Command::new(program());
         command.args(words).current_dir(&self.directory).stdin(Stdio::null());
         command
     }

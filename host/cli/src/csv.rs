@@ -1,0 +1,259 @@
+//! Records and cases as CSV: a header line, then a line for each; comma or semicolon, as the header has it.
+
+use crate::arguments::{Given, FIELDS};
+use crate::describe::FIGURE_NAMES;
+use crate::numbers;
+use csorvelin_binding::{Case, Figures, Record};
+use csorvelin_model::binary64;
+use csorvelin_model::case::QUANTITIES;
+use csorvelin_model::ranges;
+use std::io::{self, BufRead, Read};
+
+/// No line that is written here is nearly as long.
+const MOST_LINE: u64 = 1 << 16;
+
+/// The columns that a line may have. What a case is made of are its fields; the others, where they are filled, must agree.
+fn columns() -> Vec<String> {
+    let exact = QUANTITIES.iter().map(|name| format!("{name}_exact"));
+    let names = ["record"].iter().chain(&FIELDS).chain(&FIGURE_NAMES).map(|name| name.to_string());
+    names.chain(exact).collect()
+}
+
+pub fn header() -> String {
+    columns().join(",") + "\n"
+}
+
+/// A record's line: fields, figures in micrograms, exact values. A quantity that the kind does not carry is blank.
+pub fn row(number: u64, record: &Record) -> String {
+    let (case, figures) = (record.case(), <[u64; 4]>::from(record.figures()));
+    let listed = ranges::listed(case.kind, case.row);
+    let carried = |index: usize| case.patterns[index] != 0 || listed.iter().any(|listed| listed.index == index);
+    let of_quantity = |index: usize, text: fn(u64) -> String| {
+        if carried(index) {
+            text(case.patterns[index])
+        } else {
+            String::new()
+        }
+    };
+    let whole =
+        [u64::from(case.kind), case.row.into(), case.route.into(), case.user.into(), case.count.into(), case.dossier];
+    let mut cells = vec![number.to_string()];
+    cells.extend(whole.map(|value| value.to_string()));
+    cells.extend((0..6).map(|index| of_quantity(index, decimal_or_pattern)));
+    cells.extend(figures.map(|figure| figure.to_string()));
+    cells.extend((0..6).map(|index| of_quantity(index, numbers::exact_pattern)));
+    cells.join(",") + "\n"
+}
+
+/// What `import` reads back to the same pattern, be it a quantity or not.
+fn decimal_or_pattern(pattern: u64) -> String {
+    if binary64::is_quantity(pattern) {
+        numbers::shortest(pattern)
+    } else {
+        format!("{pattern:#018x}")
+    }
+}
+
+/// A case from a line, and what the line says of it besides.
+pub struct Row {
+    pub given: Given,
+    figures: [Option<String>; 4],
+    exact: [Option<String>; 6],
+}
+
+impl From<Given> for Row {
+    /// A case of which nothing else is said.
+    fn from(given: Given) -> Row {
+        Row { given, figures: Default::default(), exact: Default::default() }
+    }
+}
+
+impl Row {
+    /// In what the line differs from its case and the figures of that.
+    pub fn fault(&self, case: &Case, figures: Figures) -> Option<String> {
+        let figures = FIGURE_NAMES.iter().zip(&self.figures).zip(<[u64; 4]>::from(figures));
+        let mut figures = figures.filter_map(|((name, text), figure)| Some((name, text.as_ref()?, figure)));
+        let figure = figures.find(|(_, text, figure)| numbers::whole(text, u64::MAX) != Ok(*figure));
+        if let Some((name, text, figure)) = figure {
+            return Some(format!("{name} is {text} µg in the line, its case gives {figure} µg"));
+        }
+        let exact = QUANTITIES.iter().zip(&self.exact).zip(case.patterns);
+        let mut exact = exact.filter_map(|((name, text), pattern)| Some((name, text.as_ref()?, pattern)));
+        let (name, text, pattern) = exact.find(|(_, text, pattern)| numbers::exact_pattern(*pattern) != **text)?;
+        let taken = numbers::exact_pattern(pattern);
+        Some(format!("{name}_exact is {text} in the line, but {name} is taken as {taken}"))
+    }
+}
+
+/// The lines of a CSV text behind its header: their numbers, and the row or what is wrong with the line.
+pub struct Rows<R> {
+    lines: Lines<R>,
+    separator: char,
+    header: Vec<String>,
+}
+
+impl<R: BufRead> Rows<R> {
+    /// Reads the header.
+    pub fn new(from: R) -> Result<Rows<R>, String> {
+        let mut lines = Lines { from, number: 0 };
+        let header = match lines.next() {
+            None => return Err("there is no header line".to_string()),
+            Some(Err(error)) => return Err(error.to_string()),
+            Some(Ok(header)) => header,
+        };
+        let header = header.strip_prefix('\u{feff}').unwrap_or(&header);
+        let separator = if header.contains(';') { ';' } else { ',' };
+        let header = cells(header, separator)?.iter().map(|name| column(name)).collect::<Result<Vec<_>, _>>()?;
+        if let Some(twice) = header.iter().enumerate().find(|(index, name)| header[..*index].contains(name)) {
+            return Err(format!("column {} stands twice", twice.1));
+        }
+        Ok(Rows { lines, separator, header })
+    }
+
+    fn row(&self, line: &str) -> Result<Row, String> {
+        let cells = cells(line, self.separator)?;
+        if cells.len() != self.header.len() {
+            return Err(format!("the line has {} cells, the header {}", cells.len(), self.header.len()));
+        }
+        let filled = |name: &str| {
+            let place = self.header.iter().position(|column| column == name)?;
+            Some(cells[place].clone()).filter(|cell| !cell.is_empty())
+        };
+        let fields = FIELDS.iter().filter_map(|name| Some((name.to_string(), filled(name)?)));
+        Ok(Row {
+            given: Given::of_fields(&fields.collect::<Vec<_>>())?,
+            figures: FIGURE_NAMES.map(filled),
+            exact: QUANTITIES.map(|name| filled(&format!("{name}_exact"))),
+        })
+    }
+}
+
+impl<R: BufRead> Iterator for Rows<R> {
+    type Item = (u64, io::Result<Result<Row, String>>);
+
+    fn next(&mut self) -> Option<Self::Item> {
+        let line = self.lines.next()?;
+        Some((self.lines.number, line.map(|line| self.row(&line))))
+    }
+}
+
+/// The name of a column, in any letter case.
+fn column(name: &str) -> Result<String, String> {
+    let column = columns().into_iter().find(|column| column.eq_ignore_ascii_case(name));
+    column.ok_or(format!("there is no column '{name}': the columns are {}", columns().join(", ")))
+}
+
+/// Lines that are not blank, with their numbers, each of a bounded length.
+struct Lines<R> {
+    from: R,
+    number: u64,
+}
+
+impl<R: BufRead> Iterator for Lines<R> {
+    type Item = io::Result<String>;
+
+    fn next(&mut self) -> Option<Self::Item> {
+        loop {
+            let mut bytes = vec![];
+            self.number += 1;
+            match self.from.by_ref().take(MOST_LINE).read_until(b'\n', &mut bytes) {
+                Err(error) => return Some(Err(error)),
+                Ok(0) => return None,
+                Ok(length) if length as u64 == MOST_LINE && !bytes.ends_with(b"\n") => {
+                    return Some(Err(io::Error::other(format!("a line of over {MOST_LINE} bytes, which is no CSV"))));
+                }
+                Ok(_) => {}
+            }
+            match String::from_utf8(bytes) {
+                Err(_) => return Some(Err(io::Error::other("the line is not UTF-8"))),
+                Ok(line) if line.trim().is_empty() => continue,
+                Ok(line) => return Some(Ok(line.trim_end_matches(['\r', '\n']).to_string())),
+            }
+        }
+    }
+}
+
+/// The cells of a line, without blanks around them. A cell in quotes may hold the separator, and two quotes for one.
+fn cells(line: &str, separator: char) -> Result<Vec<String>, String> {
+    let (mut cells, mut rest) = (vec![], line);
+    loop {
+        let (cell, behind) = match rest.trim_start().strip_prefix('"') {
+            Some(quoted) => quoted_cell(quoted)?,
+            None => {
+                let (cell, _) = rest.split_at(rest.find(separator).unwrap_or(rest.len()));
+                (cell.trim().to_string(), &rest[cell.len()..])
+            }
+        };
+        cells.push(cell);
+        let behind = behind.trim_start();
+        match behind.strip_prefix(separator) {
+            Some(further) => rest = further,
+            None if behind.is_empty() => return Ok(cells),
+            None => return Err("something stands behind a cell in quotes".to_string()),
+        }
+    }
+}
+
+/// A cell whose first quote is taken off, and what stands behind its last.
+fn quoted_cell(text: &str) -> Result<(String, &str), String> {
+    let (mut cell, mut rest) = (String::new(), text);
+    loop {
+        let (part, behind) = rest.split_once('"').ok_or("a quote is not closed in its line")?;
+        cell += part;
+        match behind.strip_prefix('"') {
+            Some(further) => {
+                cell.push('"');
+                rest = further;
+            }
+            None => return Ok((cell, behind)),
+        }
+    }
+}
+
+#[cfg(test)]
+mod tests {
+    use super::*;
+
+    fn rows(text: &str) -> Vec<(u64, Result<Vec<u8>, String>)> {
+        let rows = Rows::new(text.as_bytes()).unwrap();
+        rows.map(|(line, row)| (line, row.unwrap().map(|row| row.given.bytes))).collect()
+    }
+
+    #[test]
+    fn cells_of_a_line() {
+        assert_eq!(cells("a, b ,\"c,\"\"d\",", ',').unwrap(), ["a", "b", "c,\"d", ""]);
+        assert_eq!(cells("1;2,5", ';').unwrap(), ["1", "2,5"]);
+        assert_eq!(cells("", ',').unwrap(), [""]);
+        assert_eq!(cells("\"\",\"\"\"\"", ',').unwrap(), ["", "\""]);
+        for line in ["\"a", "\"1\"5", "\"a\" \"b\"", "\"\"\""] {
+            assert!(cells(line, ',').is_err(), "{line}");
+        }
+    }
+
+    #[test]
+    fn the_same_cases_in_other_dress() {
+        let plain = "kind,row,dossier,a,b,c\n4,1,7,100,0,1\n4,1,8,5,,1\n";
+        let case = |dossier, a: f64| {
+            let patterns = [a, 0., 1., 0., 0., 0.].map(f64::to_bits);
+            Case { kind: 4, row: 1, route: 1, user: 0, count: 0, dossier, patterns }.to_bytes().to_vec()
+        };
+        let expected = vec![(2, Ok(case(7, 100.))), (3, Ok(case(8, 5.)))];
+        assert_eq!(rows(plain), expected);
+        assert_eq!(rows(&plain.replace(',', ";")), expected);
+        assert_eq!(rows(&format!("\u{feff}{}", plain.replace('\n', "\r\n"))), expected);
+        assert_eq!(rows("DOSSIER,Kind,c,\"a\",Row\n7,4,1,1e2,1\n\"8\", 4 ,1,5,1"), expected);
+    }
+
+    #[test]
+    fn what_is_wrong_is_said_of_its_line() {
+        let lines = rows("kind,a\n\n4,x\n4\n4,1,2\n4,\"1\n");
+        let numbers: Vec<u64> = lines.iter().map(|(line, _)| *line).collect();
+        assert_eq!(numbers, [3, 4, 5, 6]);
+        assert!(lines.iter().all(|(_, row)| row.is_err()));
+        for text in ["", "kind,colour\n", "kind,KIND\n", "kind,\"a\n"] {
+            assert!(Rows::new(text.as_bytes()).is_err(), "{text}");
+        }
+        let endless = Rows::new(io::BufReader::new(io::repeat(b'1')));
+        assert!(endless.err().unwrap().contains("no CSV"));
+    }
+}
