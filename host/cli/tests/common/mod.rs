@@ -4,12 +4,22 @@
 use csorvelin_differential::{cases, random::Random};
 use csorvelin_model::archive;
 use csorvelin_model::case::Case;
-use std::fs;
+use std::collections::BTreeMap;
+use std::os::unix::fs::PermissionsExt;
+use std::os::unix::process::CommandExt;
 use std::path::{Path, PathBuf};
-use std::process::{Command, Output, Stdio};
+use std::process::{Child, Command, Output, Stdio};
+use std::time::{Duration, Instant};
+use std::{env, fs, process, thread};
 
 /// The case of P1 as fields.
 pub const P1: [&str; 6] = ["kind=4", "row=1", "dossier=7", "a=100", "b=0", "c=1"];
+
+/// What is to happen soon has happened by then, on a busy machine too.
+pub const SOON: Duration = Duration::from_secs(30);
+
+/// A user and a group that own nothing.
+pub const OTHER: u32 = 65534;
 
 /// The command that is tested.
 pub fn program() -> &'static Path {
@@ -54,6 +64,25 @@ impl Place {
         names
     }
 
+    /// The files in the directory, by name: their bytes, of a link where it leads. Directories are left out.
+    pub fn files(&self) -> BTreeMap<String, Vec<u8>> {
+        let mut files = BTreeMap::new();
+        for name in self.names() {
+            let path = self.path(&name);
+            let metadata = path.symlink_metadata().unwrap();
+            if metadata.is_symlink() {
+                files.insert(name, fs::read_link(path).unwrap().into_os_string().into_encoded_bytes());
+            } else if metadata.is_file() {
+                files.insert(name, fs::read(path).unwrap());
+            }
+        }
+        files
+    }
+
+    pub fn set_mode(&self, name: &str, mode: u32) {
+        fs::set_permissions(self.path(name), fs::Permissions::from_mode(mode)).unwrap();
+    }
+
     pub fn command(&self, words: &[&str]) -> Command {
         let mut command = Command::new(program());
         command.args(words).current_dir(&self.directory).stdin(Stdio::null());
@@ -63,6 +92,60 @@ impl Place {
     pub fn run(&self, words: &[&str]) -> Ran {
         Ran::of(self.command(words).output().unwrap())
     }
+}
+
+/// A directory that every user reaches and may write to, with a copy of the command; it is removed at the end.
+pub struct Shared {
+    directory: PathBuf,
+    pub place: Place,
+}
+
+impl Shared {
+    pub fn new(name: &str) -> Shared {
+        let directory = env::temp_dir().join(format!("csorvelin-{name}-{}", process::id()));
+        let shared = Shared { place: Place { directory: directory.join("place") }, directory };
+        fs::create_dir(&shared.directory).unwrap();
+        fs::create_dir(&shared.place.directory).unwrap();
+        shared.set_mode(0o777);
+        // Another program makes the copy: one that this process had open could not be run by its other threads.
+        let copied = Command::new("cp").arg(program()).arg(shared.program()).status().unwrap();
+        assert!(copied.success());
+        for path in [&shared.directory, &shared.program()] {
+            fs::set_permissions(path, fs::Permissions::from_mode(0o755)).unwrap();
+        }
+        shared
+    }
+
+    fn program(&self) -> PathBuf {
+        self.directory.join("program")
+    }
+
+    /// The mode of the directory in which the command is run.
+    pub fn set_mode(&self, mode: u32) {
+        fs::set_permissions(&self.place.directory, fs::Permissions::from_mode(mode)).unwrap();
+    }
+
+    /// The command run by another user, of that user's group.
+    pub fn command(&self, user: u32, words: &[&str]) -> Command {
+        let mut command = Command::new(self.program());
+        command.args(words).current_dir(&self.place.directory).stdin(Stdio::null()).uid(user).gid(user);
+        command
+    }
+
+    pub fn run_as(&self, user: u32, words: &[&str]) -> Ran {
+        Ran::of(self.command(user, words).output().unwrap())
+    }
+}
+
+impl Drop for Shared {
+    fn drop(&mut self) {
+        let _ = fs::remove_dir_all(&self.directory);
+    }
+}
+
+/// Whether these tests may run programs as other users, which root alone may.
+pub fn is_root() -> bool {
+    Command::new("true").uid(OTHER).gid(OTHER).status().is_ok()
 }
 
 /// What a run of the command left.
@@ -86,6 +169,25 @@ impl Ran {
         assert_eq!(self.status, Some(status), "\nout: {}\nerr: {}", self.out, self.err);
         self
     }
+}
+
+/// What a process leaves that must end soon, and is ended where it does not.
+pub fn ended(mut child: Child) -> Ran {
+    let deadline = Instant::now() + SOON;
+    while child.try_wait().unwrap().is_none() {
+        if Instant::now() > deadline {
+            child.kill().unwrap();
+            child.wait().unwrap();
+            panic!("it did not end");
+        }
+        thread::sleep(Duration::from_millis(2));
+    }
+    Ran::of(child.wait_with_output().unwrap())
+}
+
+/// The words that file a case into an archive, `dossier` being that field.
+pub fn filing<'a>(archive: &'a str, dossier: &'a str) -> [&'a str; 8] {
+    ["file", archive, "kind=4", "row=1", "a=5", "b=0", "c=1", dossier]
 }
 
 /// An archive of `n` records with dossiers from 1 on, made by the model.
