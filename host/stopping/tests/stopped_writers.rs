@@ -197,7 +197,7 @@ fn an_archive_that_was_left_with_two_names_is_filed_into() {
     // A second name that is the user's.
     fs::hard_link(place.path("archive"), place.path("mine")).unwrap();
     let ran = place.run(&filing("archive", "dossier=1"));
-    assert!(ran.ends(74).err.contains("3 names (hard links)"), "{}", ran.err);
+    assert!(ran.ends(74).err.contains("2 names (hard links)"), "{}", ran.err);
     assert_eq!(place.read("mine"), archive::trailer(0));
     fs::remove_file(place.path("mine")).unwrap();
     for dossier in ["dossier=1", "dossier=2"] {

@@ -80,7 +80,6 @@ impl Temporary {
 
     /// Puts the file in the place of another.
     pub fn rename(&mut self, to: &Path) -> io::Result<()> {
-        steps::before("rename the temporary file");
         fs::rename(&self.path, to)?;
         self.renamed = true;
         Ok(())
