@@ -89,12 +89,20 @@ impl Place {
         command
     }
 
+    /// The command started by a shell that has done something before, as `umask 0`.
+    pub fn command_after(&self, before: &str, words: &[&str]) -> Command {
+        let mut command = Command::new("sh");
+        command.arg("-c").arg(format!("{before} && exec \"$0\" \"$@\"")).arg(program()).args(words);
+        command.current_dir(&self.directory).stdin(Stdio::null());
+        command
+    }
+
     pub fn run(&self, words: &[&str]) -> Ran {
         Ran::of(self.command(words).output().unwrap())
     }
 }
 
-/// A directory that every user reaches and may write to, with a copy of the command; it is removed at the end.
+/// A directory that every user reaches and may write to, with a copy of the command. It is removed at the end.
 pub struct Shared {
     directory: PathBuf,
     pub place: Place,
@@ -106,12 +114,11 @@ impl Shared {
         let shared = Shared { place: Place { directory: directory.join("place") }, directory };
         fs::create_dir(&shared.directory).unwrap();
         fs::create_dir(&shared.place.directory).unwrap();
-        shared.set_mode(0o777);
-        // Another program makes the copy: one that this process had open could not be run by its other threads.
+        // Another program makes the copy: while this one has it open for writing nobody can run it.
         let copied = Command::new("cp").arg(program()).arg(shared.program()).status().unwrap();
         assert!(copied.success());
-        for path in [&shared.directory, &shared.program()] {
-            fs::set_permissions(path, fs::Permissions::from_mode(0o755)).unwrap();
+        for (path, mode) in [("", 0o755), ("program", 0o755), ("place", 0o777)] {
+            fs::set_permissions(shared.directory.join(path), fs::Permissions::from_mode(mode)).unwrap();
         }
         shared
     }
@@ -120,20 +127,18 @@ impl Shared {
         self.directory.join("program")
     }
 
-    /// The mode of the directory in which the command is run.
-    pub fn set_mode(&self, mode: u32) {
-        fs::set_permissions(&self.place.directory, fs::Permissions::from_mode(mode)).unwrap();
-    }
-
-    /// The command run by another user, of that user's group.
-    pub fn command(&self, user: u32, words: &[&str]) -> Command {
+    /// The command run by an ordinary user: another one where root runs the tests.
+    pub fn command(&self, words: &[&str]) -> Command {
         let mut command = Command::new(self.program());
-        command.args(words).current_dir(&self.place.directory).stdin(Stdio::null()).uid(user).gid(user);
+        command.args(words).current_dir(&self.place.directory).stdin(Stdio::null());
+        if is_root() {
+            command.uid(OTHER).gid(OTHER);
+        }
         command
     }
 
-    pub fn run_as(&self, user: u32, words: &[&str]) -> Ran {
-        Ran::of(self.command(user, words).output().unwrap())
+    pub fn run(&self, words: &[&str]) -> Ran {
+        Ran::of(self.command(words).output().unwrap())
     }
 }
 
@@ -143,7 +148,7 @@ impl Drop for Shared {
     }
 }
 
-/// Whether these tests may run programs as other users, which root alone may.
+/// Whether root runs the tests, who may run programs as another user and give files away.
 pub fn is_root() -> bool {
     Command::new("true").uid(OTHER).gid(OTHER).status().is_ok()
 }
