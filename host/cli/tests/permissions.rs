@@ -237,4 +237,10 @@ fn an_archive_of_several_names_is_not_replaced_under_one_of_them() {
         fs::remove_file(place.path(second)).unwrap();
     }
     place.run(&filing("archive", "dossier=3")).ends(0);
+    // Called like a temporary file itself.
+    let hidden = ".csorvelin-1-0123456789abcdef";
+    place.run(&["new", hidden]).ends(0);
+    fs::hard_link(place.path(hidden), place.path("second")).unwrap();
+    place.run(&filing(hidden, "dossier=3")).ends(74);
+    assert!(state(&place, hidden) == state(&place, "second"));
 }

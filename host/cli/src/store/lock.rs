@@ -102,7 +102,9 @@ impl Locked {
         let mut left = 0;
         for entry in fs::read_dir(directory_of(&self.file))? {
             let entry = entry?;
-            if !temporary::is_ours(&entry.file_name()) {
+            let name = entry.file_name();
+            // The archive's own name may be of that form too.
+            if !temporary::is_ours(&name) || self.file.file_name() == Some(&name) {
                 continue;
             }
             match entry.metadata() {

@@ -111,8 +111,8 @@ pub struct Shared {
 impl Shared {
     pub fn new(name: &str) -> Shared {
         let directory = env::temp_dir().join(format!("csorvelin-{name}-{}", process::id()));
+        fs::create_dir(&directory).unwrap();
         let shared = Shared { place: Place { directory: directory.join("place") }, directory };
-        fs::create_dir(&shared.directory).unwrap();
         fs::create_dir(&shared.place.directory).unwrap();
         // Another program makes the copy: while this one has it open for writing nobody can run it.
         let copied = Command::new("cp").arg(program()).arg(shared.program()).status().unwrap();
