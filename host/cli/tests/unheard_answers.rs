@@ -22,9 +22,11 @@ fn closed() -> Stdio {
     writer.into()
 }
 
-const OUTPUTS: [(fn() -> Stdio, &str); 2] = [(full, "No space left on device"), (closed, "Broken pipe")];
+type Opened = fn() -> Stdio;
 
-fn run(place: &Place, words: &[&str], output: fn() -> Stdio) -> Ran {
+const OUTPUTS: [(Opened, &str); 2] = [(full, "No space left on device"), (closed, "Broken pipe")];
+
+fn run(place: &Place, words: &[&str], output: Opened) -> Ran {
     Ran::of(place.command(words).stdout(output()).output().unwrap())
 }
 
