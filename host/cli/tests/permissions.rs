@@ -205,7 +205,6 @@ fn where_nothing_can_be_written_beside_it_an_archive_stays_as_it_is() {
     shared.run(&["new", "other"]).ends(73);
     read(|words| shared.run(words));
     assert!((place.files(), state(place, "archive")) == before);
-    place.set_mode("", 0o755);
 }
 
 /// As on a full disk the first pieces are written; here it is a limit on the length of files that is met then.

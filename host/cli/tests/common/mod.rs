@@ -5,7 +5,7 @@ use csorvelin_differential::{cases, random::Random};
 use csorvelin_model::archive;
 use csorvelin_model::case::Case;
 use std::collections::BTreeMap;
-use std::os::unix::fs::PermissionsExt;
+use std::os::unix::fs::{MetadataExt, PermissionsExt};
 use std::os::unix::process::CommandExt;
 use std::path::{Path, PathBuf};
 use std::process::{Child, Command, Output, Stdio};
@@ -144,13 +144,15 @@ impl Shared {
 
 impl Drop for Shared {
     fn drop(&mut self) {
+        // A test may have made it one that cannot be emptied.
+        let _ = fs::set_permissions(&self.place.directory, fs::Permissions::from_mode(0o700));
         let _ = fs::remove_dir_all(&self.directory);
     }
 }
 
-/// Whether root runs the tests, who may run programs as another user and give files away.
+/// Whether root runs the tests, and may run programs as another user.
 pub fn is_root() -> bool {
-    Command::new("true").uid(OTHER).gid(OTHER).status().is_ok()
+    fs::metadata("/proc/self").unwrap().uid() == 0 && Command::new("true").uid(OTHER).gid(OTHER).status().is_ok()
 }
 
 /// What a run of the command left.
