@@ -1,7 +1,7 @@
 //! Who may write an archive, and that a filing leaves owner, group, mode and names as they are.
 
 mod common;
-use common::{archive_of, filing, is_root, Place, Ran, Shared, OTHER};
+use common::{archive_of, filing, is_root, rights, Place, Ran, Shared, OTHER};
 use csorvelin_differential::random::Random;
 use std::fs;
 use std::os::unix::fs::{chown, MetadataExt};
@@ -14,17 +14,16 @@ fn write_archive(place: &Place) {
     place.write("archive", &archive_of(2, &mut Random::new(700)));
 }
 
-/// Owner, group and mode of a file.
-fn rights(place: &Place, name: &str) -> (u32, u32, u32) {
-    let metadata = place.path(name).metadata().unwrap();
-    (metadata.uid(), metadata.gid(), metadata.mode() & 0o7777)
+/// Owner, group and mode of the archive.
+fn rights_of_archive(place: &Place) -> (u32, u32, u32) {
+    rights(&place.path("archive").metadata().unwrap())
 }
 
 /// All that is seen of a file by its name.
 fn state(place: &Place, name: &str) -> impl PartialEq + std::fmt::Debug {
     let metadata = place.path(name).metadata().unwrap();
     let written = (metadata.mtime(), metadata.mtime_nsec(), place.read(name));
-    (rights(place, name), metadata.ino(), metadata.nlink(), written)
+    (rights(&metadata), metadata.ino(), metadata.nlink(), written)
 }
 
 /// The commands that write to `archive` end with a status and a message, and leave all as it is.
@@ -107,11 +106,11 @@ const MODES: [u32; 12] = [0o600, 0o604, 0o606, 0o620, 0o640, 0o644, 0o660, 0o664
 
 /// Files into `archive` and imports into it; its rights stay.
 fn rights_stay(place: &Place, run: impl Fn(&[&str]) -> Ran) {
-    let before = rights(place, "archive");
+    let before = rights_of_archive(place);
     run(&filing("archive", "dossier=3")).ends(0);
-    assert_eq!(rights(place, "archive"), before);
+    assert_eq!(rights_of_archive(place), before);
     run(&["import", "archive", "case"]).ends(0);
-    assert_eq!(rights(place, "archive"), before);
+    assert_eq!(rights_of_archive(place), before);
     assert_eq!(place.read("archive").len(), 16 + 4 * 96);
     assert_eq!(place.names(), ["archive", "case"]);
 }
@@ -130,7 +129,7 @@ fn owner_group_and_mode_stay() {
             }
             place.set_mode("archive", mode);
             rights_stay(place, |words| place.run(words));
-            assert_eq!(rights(place, "archive").2, mode);
+            assert_eq!(rights_of_archive(place).2, mode);
         }
         // The owner files: an ordinary user, whose new files have a group by the directory.
         write_archive(place);
@@ -141,7 +140,7 @@ fn owner_group_and_mode_stay() {
         }
         place.set_mode("archive", mode);
         rights_stay(place, |words| shared.run(words));
-        assert_eq!(rights(place, "archive").2, mode);
+        assert_eq!(rights_of_archive(place).2, mode);
         place.set_mode("", 0o777);
     }
 }
@@ -153,14 +152,14 @@ fn the_mask_for_new_files_counts_for_new_ones_only() {
     for (mask, mode) in [("umask 0", 0o666), ("umask 027", 0o640), ("umask 077", 0o600)] {
         let run = |words: &[&str]| Ran::of(place.command_after(mask, words).output().unwrap());
         run(&["new", "archive"]).ends(0);
-        assert_eq!(rights(&place, "archive").2, mode);
+        assert_eq!(rights_of_archive(&place).2, mode);
         run(&[&["case", "--out", "case"], &common::P1[..]].concat()).ends(0);
-        assert_eq!(rights(&place, "case").2, mode);
+        assert_eq!(place.path("case").metadata().unwrap().mode() & 0o7777, mode);
         for mode in MODES {
             write_archive(&place);
             place.set_mode("archive", mode);
             run(&filing("archive", "dossier=3")).ends(0);
-            assert_eq!(rights(&place, "archive").2, mode, "{mask}");
+            assert_eq!(rights_of_archive(&place).2, mode, "{mask}");
         }
         fs::remove_file(place.path("archive")).unwrap();
         fs::remove_file(place.path("case")).unwrap();

@@ -28,15 +28,6 @@ fn filed(ran: &Ran) -> RangeInclusive<u64> {
     }
 }
 
-/// The dossiers in an archive, in their order; it is all in order itself.
-fn dossiers(place: &Place, name: &str) -> Vec<u64> {
-    let verified = place.run(&["verify", name]);
-    assert!(verified.ends(0).out.ends_with("verified: all agree\n"), "{}", verified.out);
-    let bytes = place.read(name);
-    let records = bytes[..bytes.len() - 16].chunks(96);
-    records.map(|record| u64::from_le_bytes(record[8..16].try_into().unwrap())).collect()
-}
-
 /// The archive is named in several ways.
 #[test]
 fn a_hundred_writers_at_once() {
@@ -55,7 +46,7 @@ fn a_hundred_writers_at_once() {
     numbers.sort();
     assert_eq!(numbers.iter().map(|(number, _)| *number).collect::<Vec<_>>(), (0..100).collect::<Vec<_>>());
     // Each stands where its writer was told.
-    assert_eq!(numbers.iter().map(|(_, dossier)| *dossier).collect::<Vec<u64>>(), dossiers(&place, "archive"));
+    assert_eq!(numbers.iter().map(|(_, dossier)| *dossier).collect::<Vec<u64>>(), place.dossiers("archive"));
     assert_eq!(place.names(), ["archive", "folder"]);
     assert!(place.path("folder/link").symlink_metadata().unwrap().is_symlink());
 }
@@ -73,7 +64,7 @@ fn writers_of_several_archives_at_once() {
         ended(writer).ends(0);
     }
     for (first, archive) in (1..).zip(archives) {
-        let found = BTreeSet::from_iter(dossiers(&place, archive));
+        let found = BTreeSet::from_iter(place.dossiers(archive));
         assert_eq!(found, (0..20).map(|n| first + 4 * n).collect());
     }
     assert_eq!(place.names(), ["four", "one", "three", "two"]);
@@ -101,7 +92,7 @@ fn imports_and_filings_at_once() {
         }
     }
     let told: Vec<_> = writers.into_iter().map(|(writer, expected)| (filed(&ended(writer)), expected)).collect();
-    let found = dossiers(&place, "archive");
+    let found = place.dossiers("archive");
     assert_eq!(found.len(), 15 * 12);
     for (records, expected) in told {
         assert_eq!(found[*records.start() as usize..=*records.end() as usize], expected);
@@ -129,7 +120,7 @@ fn writers_of_which_many_are_killed() {
             }
         }
     }
-    let found = dossiers(&place, "archive");
+    let found = place.dossiers("archive");
     assert!(told.len() >= 80 && found.len() >= told.len());
     assert!(told.iter().all(|(number, dossier)| found[*number] == *dossier));
     assert_eq!(BTreeSet::from_iter(&found).len(), found.len());

@@ -79,14 +79,6 @@ fn with_archive(name: &str, n: u64) -> Place {
     place
 }
 
-/// The dossiers in an archive, in their order.
-fn dossiers(place: &Place, name: &str) -> Vec<u64> {
-    place.run(&["verify", name]).ends(0);
-    let bytes = place.read(name);
-    let records = bytes[..bytes.len() - 16].chunks(96);
-    records.map(|record| u64::from_le_bytes(record[8..16].try_into().unwrap())).collect()
-}
-
 #[test]
 fn a_writer_that_is_ended_leaves_no_lock() {
     for signal in signals() {
@@ -105,7 +97,7 @@ fn a_writer_that_is_ended_leaves_no_lock() {
             assert_eq!(place.read("archive") == old, !replaced, "{step}");
             place.run(&filing("archive", "dossier=4")).ends(0);
             let expected: &[u64] = if replaced { &[1, 2, 3, 4] } else { &[1, 2, 4] };
-            assert_eq!(dossiers(&place, "archive"), expected, "{signal:?} before: {step}");
+            assert_eq!(place.dossiers("archive"), expected, "{signal:?} before: {step}");
         }
     }
 }
@@ -118,7 +110,7 @@ fn one_that_waits_files_when_the_other_is_ended() {
         let waiting = waiting_filing(&place, "dossier=4");
         kill(holder, signal);
         assert!(resumed(waiting).ends(0).out.starts_with("filed in archive as record 2\n"));
-        assert_eq!(dossiers(&place, "archive"), [1, 2, 4]);
+        assert_eq!(place.dossiers("archive"), [1, 2, 4]);
     }
 }
 
@@ -130,7 +122,7 @@ fn one_that_waits_files_behind_the_other() {
     let waiting = waiting_filing(&place, "dossier=4");
     resumed(holder).ends(0);
     assert!(resumed(waiting).ends(0).out.starts_with("filed in archive as record 3\n"));
-    assert_eq!(dossiers(&place, "archive"), [1, 2, 3, 4]);
+    assert_eq!(place.dossiers("archive"), [1, 2, 3, 4]);
     assert_eq!(place.names(), ["archive"]);
 }
 
@@ -149,7 +141,7 @@ fn one_that_was_overtaken_loses_nothing() {
     place.run(&filing("archive", "dossier=7")).ends(0);
     resumed(slow).ends(0);
     resumed(same).ends(22);
-    assert_eq!(dossiers(&place, "archive"), [1, 3, 2, 5, 6, 7, 4]);
+    assert_eq!(place.dossiers("archive"), [1, 3, 2, 5, 6, 7, 4]);
     assert_eq!(place.names(), ["archive"]);
 }
 
@@ -166,7 +158,7 @@ fn an_archive_replaced_while_one_waits_is_the_one_filed_into() {
     fs::rename(place.path("other"), place.path("archive")).unwrap();
     drop(held);
     assert!(resumed(waiting).ends(0).out.starts_with("filed in archive as record 5\n"));
-    assert_eq!(dossiers(&place, "archive"), [1, 2, 3, 4, 5, 9]);
+    assert_eq!(place.dossiers("archive"), [1, 2, 3, 4, 5, 9]);
     assert_eq!(place.read("put away"), old);
     assert_eq!(place.names(), ["archive", "put away"]);
 }
@@ -177,7 +169,7 @@ fn an_archive_removed_while_one_waits_is_not_made_again() {
     let slow = paused_filing(&place, "dossier=9", "lock the archive");
     fs::rename(place.path("archive"), place.path("put away")).unwrap();
     resumed(slow).ends(66);
-    assert_eq!(dossiers(&place, "put away"), [1, 2]);
+    assert_eq!(place.dossiers("put away"), [1, 2]);
     assert_eq!(place.names(), ["put away"]);
 }
 
@@ -219,7 +211,7 @@ fn a_new_archive_is_filed_into_before_its_maker_ends() {
     let maker = paused(&place, &["new", "archive"], 5, "remove the temporary name");
     place.run(&filing("archive", "dossier=1")).ends(0);
     resumed(maker).ends(0);
-    assert_eq!(dossiers(&place, "archive"), [1]);
+    assert_eq!(place.dossiers("archive"), [1]);
     assert_eq!(place.names(), ["archive"]);
 }
 
@@ -237,7 +229,7 @@ fn a_name_taken_meanwhile_is_not_taken_again() {
         let ran = resumed(slow);
         assert!(ran.ends(73).err.contains("exists already; nothing was written"), "{}", ran.err);
     }
-    assert_eq!(dossiers(&place, "archive"), [1]);
+    assert_eq!(place.dossiers("archive"), [1]);
     assert_eq!(place.read("p1"), b"mine");
     assert_eq!(place.names(), ["archive", "p1"]);
 }

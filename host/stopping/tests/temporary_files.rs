@@ -2,7 +2,7 @@
 
 #[path = "../../cli/tests/common/mod.rs"]
 mod common;
-use common::{archive_of, filing, is_root, program, Place, Shared, OTHER};
+use common::{archive_of, filing, is_root, program, rights, Place, Shared, OTHER};
 use csorvelin_differential::random::Random;
 use std::fs::{self, Metadata};
 use std::os::unix::fs::{chown, MetadataExt};
@@ -34,10 +34,6 @@ fn taken(place: &Place) -> Option<Metadata> {
     let metadata = path.symlink_metadata().unwrap();
     fs::remove_file(path).unwrap();
     Some(metadata)
-}
-
-fn rights(metadata: &Metadata) -> (u32, u32, u32) {
-    (metadata.uid(), metadata.gid(), metadata.mode() & 0o7777)
 }
 
 /// Two pieces long with one record more.

@@ -5,6 +5,7 @@ use csorvelin_differential::{cases, random::Random};
 use csorvelin_model::archive;
 use csorvelin_model::case::Case;
 use std::collections::BTreeMap;
+use std::fs::Metadata;
 use std::os::unix::fs::{MetadataExt, PermissionsExt};
 use std::os::unix::process::CommandExt;
 use std::path::{Path, PathBuf};
@@ -77,6 +78,15 @@ impl Place {
             }
         }
         files
+    }
+
+    /// The dossiers in an archive in which all is in order, record by record.
+    pub fn dossiers(&self, archive: &str) -> Vec<u64> {
+        let verified = self.run(&["verify", archive]);
+        assert!(verified.ends(0).out.ends_with("verified: all agree\n"), "{}", verified.out);
+        let bytes = self.read(archive);
+        let records = bytes[..bytes.len() - 16].chunks(96);
+        records.map(|record| u64::from_le_bytes(record[8..16].try_into().unwrap())).collect()
     }
 
     pub fn set_mode(&self, name: &str, mode: u32) {
@@ -153,6 +163,11 @@ impl Drop for Shared {
 /// Whether root runs the tests, and may run programs as another user.
 pub fn is_root() -> bool {
     fs::metadata("/proc/self").unwrap().uid() == 0 && Command::new("true").uid(OTHER).gid(OTHER).status().is_ok()
+}
+
+/// Owner, group and mode of a file.
+pub fn rights(metadata: &Metadata) -> (u32, u32, u32) {
+    (metadata.uid(), metadata.gid(), metadata.mode() & 0o7777)
 }
 
 /// What a run of the command left.
