@@ -13,7 +13,7 @@ pub fn page() -> String {
     text += "csorvelin \\- daily emissions of preservatives, worked out exactly and filed\n.SH SYNOPSIS\n";
     for command in &COMMANDS {
         for (form, _) in command.forms {
-            text += &format!(".B csorvelin {}\n{}\n.br\n", roff(command.name), line(form));
+            text += &format!(".B csorvelin {} {}\n.br\n", roff(command.name), roff(form));
         }
     }
     text += &format!(".SH DESCRIPTION\n{}\n.PP\n{}\n.SH COMMANDS\n", lines(help::CASE), lines(help::GENERAL));
@@ -21,7 +21,7 @@ pub fn page() -> String {
         for (form, meaning) in command.forms {
             text += &format!(".TP\n.B {} {}\n{}\n", roff(command.name), roff(form), line(meaning));
         }
-        text += &format!("{}\n.RS\n", lines(command.about));
+        text += &format!(".RS\n.PP\n{}\n", lines(command.about));
         for form in help::options(command).filter(|form| command.options.contains(&form.option)) {
             text += &format!(".TP\n.B {}\n{}\n", roff(&help::typed(form)), line(form.meaning));
         }

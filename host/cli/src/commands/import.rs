@@ -246,7 +246,7 @@ impl Outcome {
         let (would, archive) = (if dry_run { "would be " } else { "" }, shown(archive));
         match filed {
             0 if *passed == 0 => format!("{read}, none {would}filed; {archive} is as it was"),
-            0 => format!("{read}, none {would}filed (--keep-going files the other {passed}); {archive} is as it was"),
+            0 => format!("{read}, none {would}filed; {archive} is as it was; --keep-going would file {passed}"),
             1 => format!("{read}, 1 {would}filed in {archive} as record {first}"),
             _ => format!("{read}, {filed} {would}filed in {archive} as records {first} to {}", first + filed - 1),
         }
