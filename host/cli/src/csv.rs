@@ -4,6 +4,7 @@ use crate::arguments::{Given, FIELDS};
 use crate::describe::FIGURE_NAMES;
 use crate::numbers;
 use csorvelin_binding::{Case, Figures, Record};
+use csorvelin_model::archive::MOST_RECORDS;
 use csorvelin_model::binary64;
 use csorvelin_model::case::QUANTITIES;
 use csorvelin_model::ranges;
@@ -11,6 +12,9 @@ use std::io::{self, BufRead, Read};
 
 /// No line that is written here is nearly as long.
 const MOST_LINE: u64 = 1 << 16;
+
+/// Nor are as many lines ever wanted, blank ones among them.
+const MOST_LINES: u64 = 2 * MOST_RECORDS;
 
 /// The columns that a line may have. What a case is made of are its fields; the others, where they are filled, must agree.
 fn columns() -> Vec<String> {
@@ -156,6 +160,9 @@ impl<R: BufRead> Iterator for Lines<R> {
         loop {
             let mut bytes = vec![];
             self.number += 1;
+            if self.number > MOST_LINES {
+                return Some(Err(io::Error::other(format!("over {MOST_LINES} lines"))));
+            }
             match self.from.by_ref().take(MOST_LINE).read_until(b'\n', &mut bytes) {
                 Err(error) => return Some(Err(error)),
                 Ok(0) => return None,
@@ -255,5 +262,7 @@ mod tests {
         }
         let endless = Rows::new(io::BufReader::new(io::repeat(b'1')));
         assert!(endless.err().unwrap().contains("no CSV"));
+        let blank = Rows::new(io::BufReader::new(io::repeat(b'\n')));
+        assert!(blank.err().unwrap().contains("lines"));
     }
 }
