@@ -46,7 +46,7 @@ pub const STATUSES: [(u8, &str); 9] = [
 ];
 
 impl Failure {
-    fn status(&self) -> u8 {
+    pub fn status(&self) -> u8 {
         match self {
             Failure::Refused(violation) | Failure::ListRefused(violation) | Failure::ListTooLong(violation) => {
                 violation.number as u8
@@ -110,7 +110,7 @@ impl Failure {
         }
     }
 
-    fn text(&self) -> String {
+    pub fn text(&self) -> String {
         let message = self.message();
         match (self, self.violation()) {
             (_, Some(Violation { number, field, found, allowed })) => {
