@@ -6,7 +6,8 @@
 pub fn before(_step: &str) {}
 
 /// A point right before the step of this name. With CSORVELIN_TEST_STOP set to n the process aborts at the n-th point that
-/// it reaches, counted from 1, after naming it on standard error; with CSORVELIN_TEST_PAUSE it waits there to be killed.
+/// it reaches, counted from 1, after naming it on standard error; with CSORVELIN_TEST_PAUSE it waits there until its
+/// standard input ends.
 #[cfg(feature = "stops")]
 pub fn before(step: &str) {
     use std::sync::atomic::{AtomicU64, Ordering};
@@ -20,8 +21,6 @@ pub fn before(step: &str) {
     }
     if here("CSORVELIN_TEST_PAUSE") {
         eprintln!("paused before: {step}");
-        loop {
-            std::thread::park();
-        }
+        let _ = std::io::copy(&mut std::io::stdin(), &mut std::io::sink());
     }
 }

@@ -1,4 +1,4 @@
-//! Archive files through the command: filing, reading, refusals, damaged files, locks.
+//! Archive files through the command: filing, reading, refusals, damaged files.
 
 mod common;
 use common::{archive_of, with, Place, P1};
@@ -8,7 +8,7 @@ use csorvelin_model::case::Case;
 use csorvelin_model::listing::printed;
 use std::path::Path;
 use std::process::Stdio;
-use std::{fs, io::Write, thread, time::Duration};
+use std::{fs, io::Write};
 
 #[test]
 fn file_list_show_and_worst() {

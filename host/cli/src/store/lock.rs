@@ -56,8 +56,8 @@ impl Locked {
     /// Refuses a file that has other names: they would keep the old archive. A name that a stopped writer left beside it is
     /// none of the user's.
     pub fn sole_name(&self) -> Result<(), Failure> {
-        let names = self.metadata.nlink();
-        if names == 1 || names == 1 + self.left_names().map_err(|error| unreadable(&self.file, &error))? {
+        let names = self.names().map_err(|error| unreadable(&self.file, &error))?;
+        if names == 1 {
             return Ok(());
         }
         Err(Failure::NotWritten(format!(
@@ -67,12 +67,51 @@ impl Locked {
         )))
     }
 
+    /// How many names the file has, those that were left not counted.
+    fn names(&self) -> io::Result<u64> {
+        let count = || self.handle.metadata().map(|metadata| metadata.nlink());
+        if count()? == 1 {
+            return Ok(1);
+        }
+        let left = self.left_names()?;
+        // Counted again: whoever made the archive may have taken the temporary name away by now.
+        Ok(count()?.saturating_sub(left).max(1))
+    }
+
+    /// Refuses to replace a file to which something was done since the lock was taken: that would be undone.
+    pub fn is_as_it_was(&self) -> Result<(), Failure> {
+        let looked = still_there(&self.handle, &self.file).and_then(|there| Ok((there, self.handle.metadata()?)));
+        let (there, now) = looked.map_err(|error| unreadable(&self.file, &error))?;
+        let state = |metadata: &Metadata| {
+            let (owner, group, mode) = (metadata.uid(), metadata.gid(), metadata.mode());
+            (owner, group, mode, metadata.len(), metadata.mtime(), metadata.mtime_nsec())
+        };
+        if there && is_sealed(&now) {
+            return Err(sealed(&self.file, SEALED_FOR_ALL));
+        }
+        if !there || state(&now) != state(&self.metadata) {
+            let name = shown(&self.file);
+            return Err(Failure::NotWritten(format!(
+                "{name} was changed meanwhile; it is left as it is now. Try again."
+            )));
+        }
+        self.sole_name()
+    }
+
     fn left_names(&self) -> io::Result<u64> {
         let mut left = 0;
         for entry in fs::read_dir(directory_of(&self.file))? {
             let entry = entry?;
-            if temporary::is_ours(&entry.file_name()) && same_file(&entry.metadata()?, &self.metadata) {
-                left += 1;
+            let name = entry.file_name();
+            // The archive's own name may be of that form too.
+            if !temporary::is_ours(&name) || self.file.file_name() == Some(&name) {
+                continue;
+            }
+            match entry.metadata() {
+                Ok(metadata) => left += u64::from(same_file(&metadata, &self.metadata)),
+                // Another writer's, removed by now.
+                Err(error) if error.kind() == ErrorKind::NotFound => {}
+                Err(error) => return Err(error),
             }
         }
         Ok(left)
@@ -88,21 +127,31 @@ fn still_there(handle: &File, file: &Path) -> io::Result<bool> {
     }
 }
 
+const SEALED_FOR_ALL: &str = "nobody has write permission (chmod u+w opens it)";
+
+fn is_sealed(metadata: &Metadata) -> bool {
+    metadata.mode() & 0o222 == 0
+}
+
+fn sealed(path: impl AsRef<OsStr>, why: &str) -> Failure {
+    Failure::Sealed(format!("{} is sealed: {why}; nothing was changed", shown(path)))
+}
+
 /// The file opened for writing, though nothing is written to it: whoever may not write an archive does not replace it, and
 /// one without any write permission is sealed, for the system's administrator too.
 fn writable(path: &OsStr, file: &Path) -> Result<File, Failure> {
-    let sealed = |why: &str| Failure::Sealed(format!("{} is sealed: {why}; nothing was changed", shown(path)));
     match regular_file(file, OpenOptions::new().read(true).write(true)) {
         Ok(handle) => {
-            let mode = handle.metadata().map_err(|error| unreadable(path, &error))?.mode();
-            if mode & 0o222 == 0 {
-                return Err(sealed("nobody has write permission (chmod u+w opens it)"));
+            if is_sealed(&handle.metadata().map_err(|error| unreadable(path, &error))?) {
+                return Err(sealed(path, SEALED_FOR_ALL));
             }
             Ok(handle)
         }
-        Err(error) if error.kind() == ErrorKind::ReadOnlyFilesystem => Err(sealed("its file system is read-only")),
+        Err(error) if error.kind() == ErrorKind::ReadOnlyFilesystem => {
+            Err(sealed(path, "its file system is read-only"))
+        }
         Err(error) if error.kind() == ErrorKind::PermissionDenied && File::open(file).is_ok() => {
-            Err(sealed("you have no write permission"))
+            Err(sealed(path, "you have no write permission"))
         }
         Err(error) => Err(unreadable(path, &error)),
     }

@@ -84,7 +84,10 @@ fn replace(locked: &Locked, bytes: &[u8]) -> Result<(), Failure> {
     temporary.take_over(&locked.metadata).map_err(|error| {
         Failure::NotWritten(format!("owner, group and mode of {name} cannot be kept ({error}); nothing was changed"))
     })?;
-    temporary.write(bytes).and_then(|()| temporary.rename(&locked.file)).map_err(not_written)
+    temporary.write(bytes).map_err(not_written)?;
+    steps::before("rename the temporary file");
+    locked.is_as_it_was()?;
+    temporary.rename(&locked.file).map_err(not_written)
 }
 
 /// Syncs the directory of a file that has just got its name; what is to be said where that fails.

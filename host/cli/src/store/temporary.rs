@@ -33,6 +33,8 @@ pub fn random() -> u64 {
 pub struct Temporary {
     handle: File,
     path: PathBuf,
+    /// The mode that it has taken over.
+    mode: Option<Permissions>,
     renamed: bool,
 }
 
@@ -45,7 +47,7 @@ impl Temporary {
         loop {
             let path = directory.join(format!("{PREFIX}{}-{:016x}", std::process::id(), random()));
             match OpenOptions::new().write(true).create_new(true).mode(mode).open(&path) {
-                Ok(handle) => return Ok(Temporary { handle, path, renamed: false }),
+                Ok(handle) => return Ok(Temporary { handle, path, mode: None, renamed: false }),
                 Err(error) if error.kind() == ErrorKind::AlreadyExists => continue,
                 Err(error) => return Err(error),
             }
@@ -53,7 +55,7 @@ impl Temporary {
     }
 
     /// Gives the file another's owner, group and mode.
-    pub fn take_over(&self, replaced: &Metadata) -> io::Result<()> {
+    pub fn take_over(&mut self, replaced: &Metadata) -> io::Result<()> {
         steps::before("set owner and mode");
         let own = |metadata: &Metadata| (metadata.uid(), metadata.gid(), metadata.mode() & PERMISSIONS);
         let (uid, gid, mode) = own(replaced);
@@ -66,6 +68,7 @@ impl Temporary {
         if own(&self.handle.metadata()?) != own(replaced) {
             return Err(io::Error::other("the file system has others"));
         }
+        self.mode = Some(Permissions::from_mode(mode));
         Ok(())
     }
 
@@ -74,13 +77,16 @@ impl Temporary {
             steps::before("write a piece");
             self.handle.write_all(piece)?;
         }
+        if let Some(mode) = &self.mode {
+            // The system takes set-user and set-group bits away from a file that is written to.
+            self.handle.set_permissions(mode.clone())?;
+        }
         steps::before("sync the temporary file");
         self.handle.sync_all()
     }
 
     /// Puts the file in the place of another.
     pub fn rename(&mut self, to: &Path) -> io::Result<()> {
-        steps::before("rename the temporary file");
         fs::rename(&self.path, to)?;
         self.renamed = true;
         Ok(())

@@ -4,12 +4,22 @@
 use csorvelin_differential::{cases, random::Random};
 use csorvelin_model::archive;
 use csorvelin_model::case::Case;
-use std::fs;
+use std::collections::BTreeMap;
+use std::os::unix::fs::{MetadataExt, PermissionsExt};
+use std::os::unix::process::CommandExt;
 use std::path::{Path, PathBuf};
-use std::process::{Command, Output, Stdio};
+use std::process::{Child, Command, Output, Stdio};
+use std::time::{Duration, Instant};
+use std::{env, fs, process, thread};
 
 /// The case of P1 as fields.
 pub const P1: [&str; 6] = ["kind=4", "row=1", "dossier=7", "a=100", "b=0", "c=1"];
+
+/// What is to happen soon has happened by then, on a busy machine too.
+pub const SOON: Duration = Duration::from_secs(30);
+
+/// A user and a group that own nothing.
+pub const OTHER: u32 = 65534;
 
 /// The command that is tested.
 pub fn program() -> &'static Path {
@@ -54,15 +64,95 @@ impl Place {
         names
     }
 
+    /// The files in the directory, by name: their bytes, of a link where it leads. Directories are left out.
+    pub fn files(&self) -> BTreeMap<String, Vec<u8>> {
+        let mut files = BTreeMap::new();
+        for name in self.names() {
+            let path = self.path(&name);
+            let metadata = path.symlink_metadata().unwrap();
+            if metadata.is_symlink() {
+                files.insert(name, fs::read_link(path).unwrap().into_os_string().into_encoded_bytes());
+            } else if metadata.is_file() {
+                files.insert(name, fs::read(path).unwrap());
+            }
+        }
+        files
+    }
+
+    pub fn set_mode(&self, name: &str, mode: u32) {
+        fs::set_permissions(self.path(name), fs::Permissions::from_mode(mode)).unwrap();
+    }
+
     pub fn command(&self, words: &[&str]) -> Command {
         let mut command = Command::new(program());
         command.args(words).current_dir(&self.directory).stdin(Stdio::null());
         command
     }
 
+    /// The command started by a shell that has done something before, as `umask 0`.
+    pub fn command_after(&self, before: &str, words: &[&str]) -> Command {
+        let mut command = Command::new("sh");
+        command.arg("-c").arg(format!("{before} && exec \"$0\" \"$@\"")).arg(program()).args(words);
+        command.current_dir(&self.directory).stdin(Stdio::null());
+        command
+    }
+
     pub fn run(&self, words: &[&str]) -> Ran {
         Ran::of(self.command(words).output().unwrap())
     }
+}
+
+/// A directory that every user reaches and may write to, with a copy of the command. It is removed at the end.
+pub struct Shared {
+    directory: PathBuf,
+    pub place: Place,
+}
+
+impl Shared {
+    pub fn new(name: &str) -> Shared {
+        let directory = env::temp_dir().join(format!("csorvelin-{name}-{}", process::id()));
+        fs::create_dir(&directory).unwrap();
+        let shared = Shared { place: Place { directory: directory.join("place") }, directory };
+        fs::create_dir(&shared.place.directory).unwrap();
+        // Another program makes the copy: while this one has it open for writing nobody can run it.
+        let copied = Command::new("cp").arg(program()).arg(shared.program()).status().unwrap();
+        assert!(copied.success());
+        for (path, mode) in [("", 0o755), ("program", 0o755), ("place", 0o777)] {
+            fs::set_permissions(shared.directory.join(path), fs::Permissions::from_mode(mode)).unwrap();
+        }
+        shared
+    }
+
+    fn program(&self) -> PathBuf {
+        self.directory.join("program")
+    }
+
+    /// The command run by an ordinary user: another one where root runs the tests.
+    pub fn command(&self, words: &[&str]) -> Command {
+        let mut command = Command::new(self.program());
+        command.args(words).current_dir(&self.place.directory).stdin(Stdio::null());
+        if is_root() {
+            command.uid(OTHER).gid(OTHER);
+        }
+        command
+    }
+
+    pub fn run(&self, words: &[&str]) -> Ran {
+        Ran::of(self.command(words).output().unwrap())
+    }
+}
+
+impl Drop for Shared {
+    fn drop(&mut self) {
+        // A test may have made it one that cannot be emptied.
+        let _ = fs::set_permissions(&self.place.directory, fs::Permissions::from_mode(0o700));
+        let _ = fs::remove_dir_all(&self.directory);
+    }
+}
+
+/// Whether root runs the tests, and may run programs as another user.
+pub fn is_root() -> bool {
+    fs::metadata("/proc/self").unwrap().uid() == 0 && Command::new("true").uid(OTHER).gid(OTHER).status().is_ok()
 }
 
 /// What a run of the command left.
@@ -86,6 +176,25 @@ impl Ran {
         assert_eq!(self.status, Some(status), "\nout: {}\nerr: {}", self.out, self.err);
         self
     }
+}
+
+/// What a process leaves that must end soon, and is ended where it does not.
+pub fn ended(mut child: Child) -> Ran {
+    let deadline = Instant::now() + SOON;
+    while child.try_wait().unwrap().is_none() {
+        if Instant::now() > deadline {
+            child.kill().unwrap();
+            child.wait().unwrap();
+            panic!("it did not end");
+        }
+        thread::sleep(Duration::from_millis(2));
+    }
+    Ran::of(child.wait_with_output().unwrap())
+}
+
+/// The words that file a case into an archive, `dossier` being that field.
+pub fn filing<'a>(archive: &'a str, dossier: &'a str) -> [&'a str; 8] {
+    ["file", archive, "kind=4", "row=1", "a=5", "b=0", "c=1", dossier]
 }
 
 /// An archive of `n` records with dossiers from 1 on, made by the model.
