@@ -164,8 +164,8 @@ impl Batch {
     fn csv(&mut self, file: Rc<str>, from: impl BufRead) {
         let rows = match Rows::new(from) {
             Ok(rows) => rows,
-            Err(message) => {
-                let place = self.place(&file, Some(1));
+            Err((line, message)) => {
+                let place = self.place(&file, Some(line));
                 return self.refuse(place, Failure::Usage(message));
             }
         };
