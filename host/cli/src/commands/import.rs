@@ -81,7 +81,8 @@ impl Refused {
             Failure::Refused(Violation { number, field, found, allowed }) => {
                 format!("refused {number}: {}: {field}: found {found}, allowed {allowed}", self.why.message())
             }
-            other => other.message().to_string(),
+            // It may quote what stands in a file.
+            other => shown(other.message()),
         };
         format!("{}: {why}\n", self.place.text())
     }
