@@ -98,10 +98,15 @@ impl Refused {
 struct Batch {
     blank_as_zero: bool,
     read: u64,
-    offered: Vec<(Place, [u8; CASE_BYTES])>,
+    offered: Vec<Offered>,
     refused: Vec<Refused>,
-    /// A line for each blank that counts as 0.
-    notes: String,
+}
+
+/// A case that passes by itself, and which of its quantities are blanks that count as 0.
+struct Offered {
+    place: Place,
+    case: [u8; CASE_BYTES],
+    blank: Option<String>,
 }
 
 impl Batch {
@@ -189,18 +194,13 @@ impl Batch {
             Ok(worked_out) => worked_out,
             Err(failure) => return self.refuse(place, failure),
         };
-        match blank(&case, row.given.typed.as_ref()) {
-            Some(blank) if self.blank_as_zero => {
-                self.notes += &format!("{}: note: {blank}; counts as 0\n", place.text());
-            }
-            Some(blank) => {
-                return self.refuse(place, Failure::Usage(format!("{blank} (--blank-as-zero counts it as 0)")));
-            }
-            None => {}
+        let blank = blank(&case, row.given.typed.as_ref());
+        if let Some(blank) = blank.as_ref().filter(|_| !self.blank_as_zero) {
+            return self.refuse(place, Failure::Usage(format!("{blank} (--blank-as-zero counts it as 0)")));
         }
         match row.fault(&case, figures) {
             Some(fault) => self.refuse(place, Failure::Usage(fault)),
-            None => self.offered.push((place, case.to_bytes())),
+            None => self.offered.push(Offered { place, case: case.to_bytes(), blank }),
         }
     }
 
@@ -208,9 +208,13 @@ impl Batch {
     fn filed_in(mut self, mut archive: Archive, keep_going: bool) -> (Archive, Outcome) {
         let first = archive.len();
         let mut filed: Vec<Place> = vec![];
-        for (place, case) in mem::take(&mut self.offered) {
+        let mut notes = String::new();
+        for Offered { place, case, blank } in mem::take(&mut self.offered) {
             match archive.file(&case) {
-                Ok(_) => filed.push(place),
+                Ok(_) => {
+                    notes.extend(blank.map(|blank| format!("{}: note: {blank}; counts as 0\n", place.text())));
+                    filed.push(place);
+                }
                 Err(refusal) => {
                     let holder = |number: u64| match number.checked_sub(first) {
                         Some(index) => filed[index as usize].text(),
@@ -223,7 +227,7 @@ impl Batch {
         self.refused.sort_by_key(|refused| refused.place.index);
         let passed = filed.len() as u64;
         let filed = if keep_going || self.refused.is_empty() { passed } else { 0 };
-        let Batch { read, refused, notes, .. } = self;
+        let Batch { read, refused, .. } = self;
         (archive, Outcome { read, first, passed, filed, refused, notes })
     }
 }
@@ -236,6 +240,7 @@ struct Outcome {
     passed: u64,
     filed: u64,
     refused: Vec<Refused>,
+    /// A line for each case that passes with blanks that count as 0.
     notes: String,
 }
 
