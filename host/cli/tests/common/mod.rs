@@ -283,6 +283,26 @@ pub fn fields(case: &Case) -> Vec<String> {
     whole.into_iter().chain([format!("T={count}"), format!("dossier={dossier}")]).chain(quantities).collect()
 }
 
+/// The columns that make a case.
+pub const COLUMNS: &str = "kind,row,route,user,T,dossier,a,b,c,d,e,f";
+
+/// Cases as CSV: quantities that their kinds list as decimals, or as patterns where there is none; the others blank where
+/// they are zero.
+pub fn csv(cases: &[Case]) -> String {
+    let lines = cases.iter().map(|case| {
+        let Case { kind, row, route, user, count, dossier, patterns } = case;
+        let listed = ranges::listed(*kind, *row);
+        let quantities = patterns.iter().enumerate().map(|(index, &pattern)| match f64::from_bits(pattern) {
+            _ if pattern == 0 && listed.iter().all(|listed| listed.index != index) => String::new(),
+            value if value.is_finite() => format!("{value:e}"),
+            _ => format!("{pattern:#x}"),
+        });
+        let quantities: Vec<String> = quantities.collect();
+        format!("{kind},{row},{route},{user},{count},{dossier},{}\n", quantities.join(","))
+    });
+    format!("{COLUMNS}\n") + &lines.collect::<String>()
+}
+
 /// A command's words with further ones behind.
 pub fn words(first: &[&str], further: &[impl AsRef<str>]) -> Vec<String> {
     let first = first.iter().map(|word| word.to_string());
