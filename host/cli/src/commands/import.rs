@@ -5,12 +5,13 @@ use super::{archive_of, done, line, Answer};
 use crate::arguments::{Arguments, Given, Opt};
 use crate::csv::{Row, Rows};
 use crate::failure::{Failure, NOT_IN_ORDER};
+use crate::filings::Filings;
 use crate::json::Json;
 use crate::output::Output;
 use crate::paths::shown;
 use crate::refusals::filing_refused;
 use crate::store::{self, Change, Written};
-use csorvelin_binding::{Archive, CASE_BYTES};
+use csorvelin_binding::{Archive, Case, CASE_BYTES};
 use csorvelin_model::archive::MOST_RECORDS;
 use csorvelin_model::ranges::Violation;
 use std::ffi::{OsStr, OsString};
@@ -208,7 +209,7 @@ impl Batch {
     fn filed_in(mut self, mut archive: Archive, keep_going: bool) -> (Archive, Outcome) {
         let first = archive.len();
         let mut filed: Vec<Place> = vec![];
-        let mut notes = String::new();
+        let (mut filings, mut notes) = (Filings::default(), String::new());
         for Offered { place, case, blank } in mem::take(&mut self.offered) {
             match archive.file(&case) {
                 Ok(_) => {
@@ -216,11 +217,12 @@ impl Batch {
                     filed.push(place);
                 }
                 Err(refusal) => {
-                    let holder = |number: u64| match number.checked_sub(first) {
-                        Some(index) => filed[index as usize].text(),
-                        None => format!("record {number}"),
+                    let holder = || match filings.first(&archive, &Case::from_bytes(&case))? {
+                        number if number < first => Some(format!("record {number}")),
+                        number => Some(filed[(number - first) as usize].text()),
                     };
-                    self.refuse(place, filing_refused(refusal, &archive, &case, holder));
+                    let why = filing_refused(refusal, &archive, &case, holder);
+                    self.refuse(place, why);
                 }
             }
         }
