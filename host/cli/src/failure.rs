@@ -2,6 +2,7 @@
 
 use crate::json::Json;
 use crate::output::Output;
+use crate::paths::shown;
 use csorvelin_binding::Refusal;
 use csorvelin_model::ranges::Violation;
 
@@ -111,7 +112,8 @@ impl Failure {
     }
 
     pub fn text(&self) -> String {
-        let message = self.message();
+        // It may quote what was typed.
+        let message = shown(self.message());
         match (self, self.violation()) {
             (_, Some(Violation { number, field, found, allowed })) => {
                 format!("refused {number}: {message}\n  field    {field}\n  found    {found}\n  allowed  {allowed}\n")

@@ -10,6 +10,7 @@ mod defaults;
 mod describe;
 mod explain;
 mod failure;
+mod filings;
 mod help;
 mod json;
 mod layout;
