@@ -90,6 +90,9 @@ pub struct Given {
 pub const FIELDS: [&str; 12] = ["kind", "row", "route", "user", "T", "dossier", "a", "b", "c", "d", "e", "f"];
 const QUANTITIES: [&str; 6] = ["a", "b", "c", "d", "e", "f"];
 
+/// What helps where a file name was taken for a field.
+const NAME_WITH_EQUALS: &str = "a file name with = goes behind -- or is written with its folder, as ./a=b";
+
 /// The place of a quantity among the six.
 pub fn quantity_index(name: &str) -> Option<usize> {
     QUANTITIES.iter().position(|&quantity| quantity == name)
@@ -108,7 +111,7 @@ impl Arguments {
                 // What stands behind it is a place, whatever it looks like.
                 b"--" => behind = words.by_ref().collect(),
                 b"-h" => options.push((Opt::Help, vec![])),
-                [b'-', b'-', ..] => options.push(option(&word, &mut words)?),
+                [b'-', _, ..] => options.push(option(&word, &mut words)?),
                 _ => plain.push(word),
             }
         }
@@ -170,7 +173,8 @@ impl Arguments {
     pub fn wrong_places<T>(&self) -> Result<T, Failure> {
         let forms = self.command.map_or(&[][..], |command| command.forms);
         let forms: Vec<&str> = forms.iter().map(|(form, _)| if form.is_empty() { "nothing" } else { form }).collect();
-        usage(format!("{} takes {}", self.name(), forms.join(", or ")))
+        let hint = if self.fields.is_empty() { String::new() } else { format!("; {NAME_WITH_EQUALS}") };
+        usage(format!("{} takes {}{hint}", self.name(), forms.join(", or ")))
     }
 
     /// The places, exactly as many as the command takes.
@@ -195,9 +199,7 @@ impl Arguments {
             None if self.fields.is_empty() => {
                 usage(format!("{} needs a case: fields such as kind=4, or --case FILE", self.name()))
             }
-            None => Given::of_fields(&self.fields).or_else(|message| {
-                usage(format!("{message}; a file name with = goes behind -- or is written with its folder, as ./a=b"))
-            }),
+            None => Given::of_fields(&self.fields).or_else(|message| usage(format!("{message}; {NAME_WITH_EQUALS}"))),
         }
     }
 }
@@ -239,7 +241,7 @@ fn option(word: &OsStr, words: &mut impl Iterator<Item = OsString>) -> Result<(O
         None => (bytes, None),
     };
     let Some(form) = OPTIONS.iter().find(|form| form.name.as_bytes() == name) else {
-        return usage(format!("unknown option {}", shown(word)));
+        return usage(format!("unknown option {}; a file of that name goes behind --", shown(word)));
     };
     if first.is_some() && form.values.is_empty() {
         return usage(format!("{} takes no value", form.name));

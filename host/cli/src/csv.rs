@@ -4,6 +4,7 @@ use crate::arguments::{Given, FIELDS};
 use crate::describe::FIGURE_NAMES;
 use crate::numbers;
 use csorvelin_binding::{Case, Figures, Record};
+use csorvelin_model::archive::MOST_RECORDS;
 use csorvelin_model::binary64;
 use csorvelin_model::case::QUANTITIES;
 use csorvelin_model::ranges;
@@ -11,6 +12,9 @@ use std::io::{self, BufRead, Read};
 
 /// No line that is written here is nearly as long.
 const MOST_LINE: u64 = 1 << 16;
+
+/// Nor are as many lines ever wanted, blank ones among them.
+const MOST_LINES: u64 = 2 * MOST_RECORDS;
 
 /// The columns that a line may have. What a case is made of are its fields; the others, where they are filled, must agree.
 fn columns() -> Vec<String> {
@@ -93,21 +97,17 @@ pub struct Rows<R> {
 }
 
 impl<R: BufRead> Rows<R> {
-    /// Reads the header.
-    pub fn new(from: R) -> Result<Rows<R>, String> {
+    /// Reads the header; or its line, and what is wrong with it.
+    pub fn new(from: R) -> Result<Rows<R>, (u64, String)> {
         let mut lines = Lines { from, number: 0 };
-        let header = match lines.next() {
-            None => return Err("there is no header line".to_string()),
-            Some(Err(error)) => return Err(error.to_string()),
-            Some(Ok(header)) => header,
+        let line = match lines.next() {
+            None => return Err((1, "there is no header line".to_string())),
+            Some(line) => line.map_err(|error| error.to_string()),
         };
-        let header = header.strip_prefix('\u{feff}').unwrap_or(&header);
-        let separator = if header.contains(';') { ';' } else { ',' };
-        let header = cells(header, separator)?.iter().map(|name| column(name)).collect::<Result<Vec<_>, _>>()?;
-        if let Some(twice) = header.iter().enumerate().find(|(index, name)| header[..*index].contains(name)) {
-            return Err(format!("column {} stands twice", twice.1));
+        match line.and_then(|line| header_of(&text(line)?)) {
+            Ok((separator, header)) => Ok(Rows { lines, separator, header }),
+            Err(message) => Err((lines.number, message)),
         }
-        Ok(Rows { lines, separator, header })
     }
 
     fn row(&self, line: &str) -> Result<Row, String> {
@@ -133,7 +133,18 @@ impl<R: BufRead> Iterator for Rows<R> {
 
     fn next(&mut self) -> Option<Self::Item> {
         let line = self.lines.next()?;
-        Some((self.lines.number, line.map(|line| self.row(&line))))
+        Some((self.lines.number, line.map(|line| self.row(&text(line)?))))
+    }
+}
+
+/// The separator and the columns of a header.
+fn header_of(line: &str) -> Result<(char, Vec<String>), String> {
+    let line = line.strip_prefix('\u{feff}').unwrap_or(line);
+    let separator = if line.contains(';') { ';' } else { ',' };
+    let header = cells(line, separator)?.iter().map(|name| column(name)).collect::<Result<Vec<_>, _>>()?;
+    match header.iter().enumerate().find(|(index, name)| header[..*index].contains(name)) {
+        Some((_, twice)) => Err(format!("column {twice} stands twice")),
+        None => Ok((separator, header)),
     }
 }
 
@@ -150,27 +161,33 @@ struct Lines<R> {
 }
 
 impl<R: BufRead> Iterator for Lines<R> {
-    type Item = io::Result<String>;
+    type Item = io::Result<Vec<u8>>;
 
     fn next(&mut self) -> Option<Self::Item> {
         loop {
-            let mut bytes = vec![];
+            let mut line = vec![];
             self.number += 1;
-            match self.from.by_ref().take(MOST_LINE).read_until(b'\n', &mut bytes) {
+            if self.number > MOST_LINES {
+                return Some(Err(io::Error::other(format!("over {MOST_LINES} lines; nothing from here on is read"))));
+            }
+            match self.from.by_ref().take(MOST_LINE).read_until(b'\n', &mut line) {
                 Err(error) => return Some(Err(error)),
                 Ok(0) => return None,
-                Ok(length) if length as u64 == MOST_LINE && !bytes.ends_with(b"\n") => {
-                    return Some(Err(io::Error::other(format!("a line of over {MOST_LINE} bytes, which is no CSV"))));
+                Ok(length) if length as u64 == MOST_LINE && !line.ends_with(b"\n") => {
+                    let message = format!("a line of over {MOST_LINE} bytes is no CSV; nothing from here on is read");
+                    return Some(Err(io::Error::other(message)));
                 }
-                Ok(_) => {}
-            }
-            match String::from_utf8(bytes) {
-                Err(_) => return Some(Err(io::Error::other("the line is not UTF-8"))),
-                Ok(line) if line.trim().is_empty() => continue,
-                Ok(line) => return Some(Ok(line.trim_end_matches(['\r', '\n']).to_string())),
+                Ok(_) if line.trim_ascii().is_empty() => continue,
+                Ok(_) => return Some(Ok(line)),
             }
         }
     }
+}
+
+/// A line as text, without its end.
+fn text(line: Vec<u8>) -> Result<String, String> {
+    let line = String::from_utf8(line).map_err(|_| "the line is not UTF-8")?;
+    Ok(line.trim_end_matches(['\r', '\n']).to_string())
 }
 
 /// The cells of a line, without blanks around them. A cell in quotes may hold the separator, and two quotes for one.
@@ -254,6 +271,8 @@ mod tests {
             assert!(Rows::new(text.as_bytes()).is_err(), "{text}");
         }
         let endless = Rows::new(io::BufReader::new(io::repeat(b'1')));
-        assert!(endless.err().unwrap().contains("no CSV"));
+        assert!(endless.err().unwrap().1.contains("no CSV"));
+        let blank = Rows::new(io::BufReader::new(io::repeat(b'\n')));
+        assert!(blank.err().unwrap().1.contains("lines"));
     }
 }

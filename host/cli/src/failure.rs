@@ -2,6 +2,7 @@
 
 use crate::json::Json;
 use crate::output::Output;
+use crate::paths::shown;
 use csorvelin_binding::Refusal;
 use csorvelin_model::ranges::Violation;
 
@@ -46,7 +47,7 @@ pub const STATUSES: [(u8, &str); 9] = [
 ];
 
 impl Failure {
-    fn status(&self) -> u8 {
+    pub fn status(&self) -> u8 {
         match self {
             Failure::Refused(violation) | Failure::ListRefused(violation) | Failure::ListTooLong(violation) => {
                 violation.number as u8
@@ -110,8 +111,9 @@ impl Failure {
         }
     }
 
-    fn text(&self) -> String {
-        let message = self.message();
+    pub fn text(&self) -> String {
+        // It may quote what was typed.
+        let message = shown(self.message());
         match (self, self.violation()) {
             (_, Some(Violation { number, field, found, allowed })) => {
                 format!("refused {number}: {message}\n  field    {field}\n  found    {found}\n  allowed  {allowed}\n")

@@ -111,14 +111,17 @@ fn separator(f: &mut fmt::Formatter, index: usize) -> fmt::Result {
 
 fn quoted(f: &mut fmt::Formatter, text: &str) -> fmt::Result {
     f.write_str("\"")?;
-    for character in text.chars() {
-        match character {
-            '"' => f.write_str("\\\"")?,
-            '\\' => f.write_str("\\\\")?,
-            control if (control as u32) < 0x20 => write!(f, "\\u{:04x}", control as u32)?,
-            other => write!(f, "{other}")?,
+    let mut rest = text;
+    while let Some(place) = rest.find(|character: char| matches!(character, '"' | '\\' | '\0'..='\x1f')) {
+        let (plain, special) = rest.split_at(place);
+        f.write_str(plain)?;
+        match special.as_bytes()[0] {
+            special @ (b'"' | b'\\') => write!(f, "\\{}", char::from(special))?,
+            control => write!(f, "\\u{control:04x}")?,
         }
+        rest = &special[1..];
     }
+    f.write_str(rest)?;
     f.write_str("\"")
 }
 

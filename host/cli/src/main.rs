@@ -10,6 +10,7 @@ mod defaults;
 mod describe;
 mod explain;
 mod failure;
+mod filings;
 mod help;
 mod json;
 mod layout;
@@ -25,9 +26,11 @@ mod store;
 
 use arguments::Arguments;
 use failure::Failure;
-use output::Output;
+use output::{Body, Output};
 use std::ffi::OsString;
+use std::fs::File;
 use std::io::{self, BufWriter, ErrorKind, Write};
+use std::os::fd::AsFd;
 use std::process::ExitCode;
 
 fn main() -> ExitCode {
@@ -39,23 +42,37 @@ fn main() -> ExitCode {
 
 fn leave(output: Output) -> ExitCode {
     let Output { out, err, status, done } = output;
-    // Where standard error is closed there is nobody to tell.
-    let _ = io::stderr().write_all(err.as_bytes());
-    let mut to = BufWriter::new(io::stdout().lock());
-    let written = out.write(&mut to).and_then(|()| to.flush());
-    drop(to);
-    match written {
+    say(&err);
+    match print(out) {
         Ok(()) => ExitCode::from(status),
-        Err(error) => leave(unprinted(&error, status, done)),
+        Err(error) => {
+            let (status, err) = unprinted(&error, status, done);
+            say(&err);
+            ExitCode::from(status)
+        }
     }
 }
 
-/// What is left to say where standard output takes no more. A reader that has seen enough is no failure, unless something
-/// was done of which it now does not hear.
-fn unprinted(error: &io::Error, status: u8, done: Option<String>) -> Output {
-    match done {
-        Some(done) => Failure::InDoubt(format!("{done}; the answer could not be printed: {error}")).output(false),
-        None if error.kind() == ErrorKind::BrokenPipe => Output::from(String::new()).ending(status),
-        None => Failure::NotWritten(format!("standard output: {error}")).output(false),
-    }
+/// Where standard error is closed there is nobody to tell.
+fn say(text: &str) {
+    let _ = io::stderr().write_all(text.as_bytes());
+}
+
+/// Writes to standard output itself: what it did not take must not be tried again.
+fn print(out: Body) -> io::Result<()> {
+    let mut to = BufWriter::new(File::from(io::stdout().as_fd().try_clone_to_owned()?));
+    let written = out.write(&mut to).and_then(|()| to.flush());
+    let _ = to.into_parts();
+    written
+}
+
+/// Status and words where standard output takes no more. A reader that has seen enough is no failure, unless something was
+/// done of which it now does not hear.
+fn unprinted(error: &io::Error, status: u8, done: Option<String>) -> (u8, String) {
+    let failure = match done {
+        Some(done) => Failure::InDoubt(format!("{done}; the answer could not be printed: {error}")),
+        None if error.kind() == ErrorKind::BrokenPipe => return (status, String::new()),
+        None => Failure::NotWritten(format!("standard output: {error}")),
+    };
+    (failure.status(), failure.text())
 }

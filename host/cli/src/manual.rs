@@ -1,6 +1,6 @@
 //! The manual page and the completion script, made from the table of commands.
 
-use crate::arguments::FIELDS;
+use crate::arguments::{Form, EVERYWHERE, FIELDS, OPTIONS};
 use crate::commands::COMMANDS;
 use crate::describe::FIGURE_NAMES;
 use crate::failure::STATUSES;
@@ -13,7 +13,7 @@ pub fn page() -> String {
     text += "csorvelin \\- daily emissions of preservatives, worked out exactly and filed\n.SH SYNOPSIS\n";
     for command in &COMMANDS {
         for (form, _) in command.forms {
-            text += &format!(".B csorvelin {}\n{}\n.br\n", roff(command.name), line(form));
+            text += &format!(".B csorvelin {} {}\n.br\n", roff(command.name), roff(form));
         }
     }
     text += &format!(".SH DESCRIPTION\n{}\n.PP\n{}\n.SH COMMANDS\n", lines(help::CASE), lines(help::GENERAL));
@@ -21,11 +21,15 @@ pub fn page() -> String {
         for (form, meaning) in command.forms {
             text += &format!(".TP\n.B {} {}\n{}\n", roff(command.name), roff(form), line(meaning));
         }
-        text += &format!("{}\n.RS\n", lines(command.about));
-        for form in help::options(command).filter(|form| command.options.contains(&form.option)) {
-            text += &format!(".TP\n.B {}\n{}\n", roff(&help::typed(form)), line(form.meaning));
+        text += &format!(".RS\n.PP\n{}\n", lines(command.about));
+        for form in OPTIONS.iter().filter(|form| command.options.contains(&form.option)) {
+            text += &option(form);
         }
         text += &format!(".PP\nExample:\n.B {}\n.RE\n", roff(command.example));
+    }
+    text += ".SH OPTIONS\nEvery command takes these.\n";
+    for form in OPTIONS.iter().filter(|form| EVERYWHERE.contains(&form.option)) {
+        text += &option(form);
     }
     text += ".SH EXIT STATUS\n.TP\n.B 0\nas asked\n";
     for refusal in Refusal::ALL {
@@ -35,6 +39,10 @@ pub fn page() -> String {
         text += &format!(".TP\n.B {status}\n{}\n", line(meaning));
     }
     text
+}
+
+fn option(form: &Form) -> String {
+    format!(".TP\n.B {}\n{}\n", roff(&help::typed(form)), line(form.meaning))
 }
 
 /// Text inside a line: a hyphen that is typed stays one.
@@ -85,10 +93,14 @@ _csorvelin() {{
             help) words='{names} kinds refusals man completion' ;;
             worst) [ \"$COMP_CWORD\" -eq 3 ] && words='{compartments}' ;;
             list) [[ ${{COMP_WORDS[COMP_CWORD - 2]}} == --top ]] && words='{compartments}' ;;
-            work-out | explain | case | file) words='{fields}' ;;
+            file) [ \"$COMP_CWORD\" -gt 2 ] && words='{fields}' ;;
+            work-out | explain | case) words='{fields}' ;;
         esac
     fi
     COMPREPLY=($(compgen -W \"$words\" -- \"$word\"))
+    if [ \"${{COMP_WORDS[1]}}\" = explain ] && [ \"$COMP_CWORD\" -eq 2 ]; then
+        COMPREPLY+=($(compgen -f -- \"$word\"))
+    fi
     if [[ ${{COMPREPLY[0]}} == *= ]]; then
         compopt -o nospace
     fi

@@ -5,7 +5,6 @@ use crate::paths::shown;
 use crate::store::MOST_ARCHIVE_BYTES;
 use csorvelin_binding::{Archive, Refusal, CASE_BYTES};
 use csorvelin_model::archive;
-use csorvelin_model::case::same_filing;
 use csorvelin_model::ranges::{self, Violation};
 use std::ffi::OsStr;
 
@@ -47,13 +46,16 @@ pub fn not_an_archive(path: &OsStr, bytes: &[u8]) -> Violation {
     }
 }
 
-/// The library's refusal of a filing; `holder` says of a record's number what is called so.
-pub fn filing_refused(refusal: Refusal, archive: &Archive, case: &[u8], holder: impl Fn(u64) -> String) -> Failure {
+/// The library's refusal of a filing; `holder` names the record that holds it already.
+pub fn filing_refused(
+    refusal: Refusal,
+    archive: &Archive,
+    case: &[u8],
+    holder: impl FnOnce() -> Option<String>,
+) -> Failure {
     match refusal {
         Refusal::Held => {
-            let mut records = (0..).zip(archive.records());
-            let held = records.find(|(_, record)| same_filing(record.case_bytes(), case));
-            let found = held.map_or("held".to_string(), |(number, _)| format!("held as {}", holder(number)));
+            let found = holder().map_or("held".to_string(), |holder| format!("held as {holder}"));
             let allowed = "another kind, row, route, user or dossier: these five make a filing".to_string();
             refused(refusal, "kind, row, route, user, dossier", found, allowed)
         }

@@ -179,7 +179,12 @@ fn where_owner_or_group_cannot_stay_nothing_is_filed() {
     for (owner, group, mode) in [(0, 0, 0o666), (STRANGE, OTHER, 0o660), (0, STRANGE, 0o606), (OTHER, STRANGE, 0o600)] {
         chown(place.path("archive"), Some(owner), Some(group)).unwrap();
         place.set_mode("archive", mode);
-        refused(place, |words| shared.run(words), 74, "owner, group and mode of ");
+        refused(
+            place,
+            |words| shared.run(words),
+            74,
+            "owner, group, mode and access control list of archive cannot be kept",
+        );
         read(|words| shared.run(words));
     }
 }
@@ -199,7 +204,7 @@ fn where_nothing_can_be_written_beside_it_an_archive_stays_as_it_is() {
     let before = (place.files(), state(place, "archive"));
     for words in [&filing("archive", "dossier=3")[..], &["import", "archive", "case"]] {
         let ran = shared.run(words);
-        assert!(ran.ends(74).err.contains("; it is as it was before\n"), "{}", ran.err);
+        assert!(ran.ends(74).err.contains("in the directory of archive: "), "{}", ran.err);
     }
     shared.run(&["new", "other"]).ends(73);
     read(|words| shared.run(words));

@@ -167,7 +167,7 @@ fn a_lock_that_is_held_keeps_writers_out() {
         }
         let started = Instant::now();
         let ran = place.run(&[&file[..], &["--wait", "0.3"]].concat());
-        assert!(ran.ends(75).err.contains("locked by another writer after 0.3 seconds"), "{}", ran.err);
+        assert!(ran.ends(75).err.contains("locked by another writer, after 0.3 seconds still;"), "{}", ran.err);
         assert!(started.elapsed() >= Duration::from_millis(300));
         for words in
             [&["list", "archive"][..], &["verify", "archive"], &["import", "archive", "cases.csv", "--dry-run"]]

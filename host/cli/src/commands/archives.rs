@@ -4,6 +4,7 @@ use super::cases::{complete, worked_out};
 use super::{archive_of, compartment, done, line, record_number, record_of, with_case_written, Answer};
 use crate::arguments::{Arguments, Opt};
 use crate::describe;
+use crate::filings::Filings;
 use crate::json::Json;
 use crate::output::Output;
 use crate::paths::shown;
@@ -35,9 +36,10 @@ pub fn file(arguments: &Arguments) -> Answer {
     complete(arguments, &case, typed)?;
     let written = store::change(path, wait, |old| {
         let mut archive = archive_of(path, old)?;
-        let number = archive
-            .file(&given.bytes)
-            .map_err(|refusal| filing_refused(refusal, &archive, &given.bytes, |number| format!("record {number}")))?;
+        let number = archive.file(&given.bytes).map_err(|refusal| {
+            let holder = || Filings::default().first(&archive, &case).map(|number| format!("record {number}"));
+            filing_refused(refusal, &archive, &given.bytes, holder)
+        })?;
         let figures = record_of(&archive, number)?.figures();
         Ok((Change::To(archive.into_bytes()), (number, figures)))
     })?;

@@ -5,12 +5,13 @@ use super::{archive_of, done, line, Answer};
 use crate::arguments::{Arguments, Given, Opt};
 use crate::csv::{Row, Rows};
 use crate::failure::{Failure, NOT_IN_ORDER};
+use crate::filings::Filings;
 use crate::json::Json;
 use crate::output::Output;
 use crate::paths::shown;
 use crate::refusals::filing_refused;
 use crate::store::{self, Change, Written};
-use csorvelin_binding::{Archive, CASE_BYTES};
+use csorvelin_binding::{Archive, Case, CASE_BYTES};
 use csorvelin_model::archive::MOST_RECORDS;
 use csorvelin_model::ranges::Violation;
 use std::ffi::{OsStr, OsString};
@@ -81,7 +82,8 @@ impl Refused {
             Failure::Refused(Violation { number, field, found, allowed }) => {
                 format!("refused {number}: {}: {field}: found {found}, allowed {allowed}", self.why.message())
             }
-            other => other.message().to_string(),
+            // It may quote what stands in a file.
+            other => shown(other.message()),
         };
         format!("{}: {why}\n", self.place.text())
     }
@@ -97,10 +99,15 @@ impl Refused {
 struct Batch {
     blank_as_zero: bool,
     read: u64,
-    offered: Vec<(Place, [u8; CASE_BYTES])>,
+    offered: Vec<Offered>,
     refused: Vec<Refused>,
-    /// A line for each blank that counts as 0.
-    notes: String,
+}
+
+/// A case that passes by itself, and which of its quantities are blanks that count as 0.
+struct Offered {
+    place: Place,
+    case: [u8; CASE_BYTES],
+    blank: Option<String>,
 }
 
 impl Batch {
@@ -164,8 +171,8 @@ impl Batch {
     fn csv(&mut self, file: Rc<str>, from: impl BufRead) {
         let rows = match Rows::new(from) {
             Ok(rows) => rows,
-            Err(message) => {
-                let place = self.place(&file, Some(1));
+            Err((line, message)) => {
+                let place = self.place(&file, Some(line));
                 return self.refuse(place, Failure::Usage(message));
             }
         };
@@ -188,18 +195,13 @@ impl Batch {
             Ok(worked_out) => worked_out,
             Err(failure) => return self.refuse(place, failure),
         };
-        match blank(&case, row.given.typed.as_ref()) {
-            Some(blank) if self.blank_as_zero => {
-                self.notes += &format!("{}: note: {blank}; counts as 0\n", place.text());
-            }
-            Some(blank) => {
-                return self.refuse(place, Failure::Usage(format!("{blank} (--blank-as-zero counts it as 0)")));
-            }
-            None => {}
+        let blank = blank(&case, row.given.typed.as_ref());
+        if let Some(blank) = blank.as_ref().filter(|_| !self.blank_as_zero) {
+            return self.refuse(place, Failure::Usage(format!("{blank} (--blank-as-zero counts it as 0)")));
         }
         match row.fault(&case, figures) {
             Some(fault) => self.refuse(place, Failure::Usage(fault)),
-            None => self.offered.push((place, case.to_bytes())),
+            None => self.offered.push(Offered { place, case: case.to_bytes(), blank }),
         }
     }
 
@@ -207,22 +209,27 @@ impl Batch {
     fn filed_in(mut self, mut archive: Archive, keep_going: bool) -> (Archive, Outcome) {
         let first = archive.len();
         let mut filed: Vec<Place> = vec![];
-        for (place, case) in mem::take(&mut self.offered) {
+        let (mut filings, mut notes) = (Filings::default(), String::new());
+        for Offered { place, case, blank } in mem::take(&mut self.offered) {
             match archive.file(&case) {
-                Ok(_) => filed.push(place),
+                Ok(_) => {
+                    notes.extend(blank.map(|blank| format!("{}: note: {blank}; counts as 0\n", place.text())));
+                    filed.push(place);
+                }
                 Err(refusal) => {
-                    let holder = |number: u64| match number.checked_sub(first) {
-                        Some(index) => filed[index as usize].text(),
-                        None => format!("record {number}"),
+                    let holder = || match filings.first(&archive, &Case::from_bytes(&case))? {
+                        number if number < first => Some(format!("record {number}")),
+                        number => Some(filed[(number - first) as usize].text()),
                     };
-                    self.refuse(place, filing_refused(refusal, &archive, &case, holder));
+                    let why = filing_refused(refusal, &archive, &case, holder);
+                    self.refuse(place, why);
                 }
             }
         }
         self.refused.sort_by_key(|refused| refused.place.index);
         let passed = filed.len() as u64;
         let filed = if keep_going || self.refused.is_empty() { passed } else { 0 };
-        let Batch { read, refused, notes, .. } = self;
+        let Batch { read, refused, .. } = self;
         (archive, Outcome { read, first, passed, filed, refused, notes })
     }
 }
@@ -235,6 +242,7 @@ struct Outcome {
     passed: u64,
     filed: u64,
     refused: Vec<Refused>,
+    /// A line for each case that passes with blanks that count as 0.
     notes: String,
 }
 
@@ -246,7 +254,7 @@ impl Outcome {
         let (would, archive) = (if dry_run { "would be " } else { "" }, shown(archive));
         match filed {
             0 if *passed == 0 => format!("{read}, none {would}filed; {archive} is as it was"),
-            0 => format!("{read}, none {would}filed (--keep-going files the other {passed}); {archive} is as it was"),
+            0 => format!("{read}, none {would}filed; {archive} is as it was; --keep-going would file {passed}"),
             1 => format!("{read}, 1 {would}filed in {archive} as record {first}"),
             _ => format!("{read}, {filed} {would}filed in {archive} as records {first} to {}", first + filed - 1),
         }

@@ -4,6 +4,7 @@ use super::cases::{agreed_sheet, fault};
 use super::{archive_of, line, Answer};
 use crate::arguments::Arguments;
 use crate::failure::{Failure, DISAGREEMENT, NOT_IN_ORDER};
+use crate::filings::Filings;
 use crate::json::Json;
 use crate::output::Output;
 use crate::paths::shown;
@@ -13,7 +14,6 @@ use crate::{sha256, store};
 use csorvelin_binding::{work_out, Archive, Record};
 use csorvelin_model::archive::EDITION;
 use csorvelin_model::ranges::Violation;
-use std::collections::hash_map::{Entry, HashMap};
 use std::io::{self, Write};
 
 /// What is wrong with a record.
@@ -61,15 +61,13 @@ pub fn verify(arguments: &Arguments) -> Answer {
 impl Findings {
     fn of(name: String, archive: &Archive) -> Findings {
         let mut faults = vec![];
-        let mut filings = HashMap::new();
+        let mut filings = Filings::default();
         let mut progress = Progress::new("verified", archive.len());
         for (number, record) in (0..).zip(archive.records()) {
             progress.at(number);
             faults.extend(record_fault(&record).map(|fault| (number, fault)));
-            match filings.entry(filing(&record)) {
-                Entry::Vacant(place) => drop(place.insert(number)),
-                Entry::Occupied(earlier) => faults.push((number, Fault::Again(*earlier.get()))),
-            }
+            let earlier = filings.first(archive, &record.case()).filter(|&first| first < number);
+            faults.extend(earlier.map(|earlier| (number, Fault::Again(earlier))));
         }
         let bytes = archive.bytes();
         Findings {
@@ -141,12 +139,6 @@ impl Findings {
         // The summary's entries stand behind the list.
         write!(to, "],{}", &line(summary)[1..])
     }
-}
-
-/// Bytes 0 to 3 and 8 to 15 of a record's case, by which two are the same filing.
-fn filing(record: &Record) -> ([u8; 4], u64) {
-    let case = record.case();
-    ([case.kind, case.row, case.route, case.user], case.dossier)
 }
 
 /// What is wrong with a record by itself.

@@ -3,7 +3,10 @@
 //! whole. A lock of the operating system on the archive keeps a second writer out and ends with the process. Nothing is
 //! removed or written over that this run did not itself make, but the archive that is filed into.
 
+mod acl;
 mod lock;
+mod owned;
+mod place;
 mod reading;
 mod temporary;
 
@@ -12,9 +15,9 @@ pub use reading::{case_bytes, read_archive, read_case, regular_file, MOST_ARCHIV
 use crate::failure::Failure;
 use crate::paths::{directory_of, shown};
 use crate::steps;
-use lock::Locked;
+use lock::{Locked, Writable};
 use std::ffi::OsStr;
-use std::fs::{self, File};
+use std::fs::File;
 use std::io::{self, ErrorKind};
 use std::path::Path;
 use std::time::Duration;
@@ -43,10 +46,11 @@ pub fn create(path: &OsStr, bytes: &[u8]) -> Result<Written<()>, Failure> {
         _ => Failure::NotCreated(format!("cannot create {}: {error}", shown(path))),
     };
     let mut temporary = Temporary::create(directory_of(file), None).map_err(not_created)?;
-    temporary.write(bytes).and_then(|()| temporary.link(file)).map_err(not_created)?;
+    let written = temporary.write(bytes).and_then(|()| temporary.sync()).and_then(|()| temporary.link(file));
+    written.map_err(not_created)?;
     steps::before("remove the temporary name");
     drop(temporary);
-    Ok(Written { answer: (), doubt: sync_directory(file) })
+    Ok(Written { answer: (), doubt: sync(directory_of(file)) })
 }
 
 fn exists(path: &OsStr) -> Failure {
@@ -61,44 +65,52 @@ pub fn change<T>(
     change: impl FnOnce(Vec<u8>) -> Result<(Change, T), Failure>,
 ) -> Result<Written<T>, Failure> {
     let locked = Locked::take(path, wait)?;
-    locked.sole_name()?;
+    locked.archive.sole_name()?;
     steps::before("read the archive");
-    let (change, answer) = change(locked.read()?)?;
+    let (change, answer) = change(locked.archive.read()?)?;
     let doubt = match change {
         Change::Nothing => None,
         Change::To(bytes) => {
-            replace(&locked, &bytes)?;
-            sync_directory(&locked.file)
+            replace(path, &locked, &bytes)?;
+            sync(&locked.archive.place.directory)
         }
     };
     steps::before("end");
     Ok(Written { answer, doubt })
 }
 
-/// Puts a file of these bytes in place of the one that is locked, with its owner, group and mode.
-fn replace(locked: &Locked, bytes: &[u8]) -> Result<(), Failure> {
-    let name = shown(&locked.file);
-    let not_written = |error| Failure::NotWritten(format!("cannot write {name}: {error}; it is as it was before"));
-    let directory = directory_of(&locked.file);
-    let mut temporary = Temporary::create(directory, Some(&locked.metadata)).map_err(not_written)?;
-    temporary.take_over(&locked.metadata).map_err(|error| {
-        Failure::NotWritten(format!("owner, group and mode of {name} cannot be kept ({error}); nothing was changed"))
+/// The bytes of an archive that could be filed into, as far as is seen without a lock.
+pub fn look(path: &OsStr) -> Result<Vec<u8>, Failure> {
+    let archive = Writable::open(path)?;
+    archive.sole_name()?;
+    archive.read()
+}
+
+/// Puts a file of these bytes in place of the one that is locked, with its owner, group, mode and access control list.
+fn replace(path: &OsStr, locked: &Locked, bytes: &[u8]) -> Result<(), Failure> {
+    let path = shown(path);
+    let not_written = |error| Failure::NotWritten(format!("cannot write {path}: {error}; it is as it was before"));
+    let not_kept = |error| {
+        let whose = "owner, group, mode and access control list";
+        Failure::NotWritten(format!("{whose} of {path} cannot be kept ({error}); nothing was changed"))
+    };
+    let mut temporary = Temporary::create(&locked.archive.place.directory, Some(&locked.owned)).map_err(|error| {
+        Failure::NotWritten(format!("cannot write in the directory of {path}: {error}; nothing was changed"))
     })?;
+    steps::before("set owner and mode");
+    temporary.take_over(&locked.owned).map_err(not_kept)?;
     temporary.write(bytes).map_err(not_written)?;
+    // Again: the system takes set-user and set-group bits away from a file that is written to.
+    temporary.take_over(&locked.owned).map_err(not_kept)?;
+    temporary.sync().map_err(not_written)?;
     steps::before("rename the temporary file");
     locked.is_as_it_was()?;
-    temporary.rename(&locked.file).map_err(not_written)
+    temporary.rename(&locked.archive.place.file).map_err(not_written)
 }
 
-/// Syncs the directory of a file that has just got its name; what is to be said where that fails.
-fn sync_directory(file: &Path) -> Option<String> {
+/// Syncs a directory in which a file has just got its name; what is to be said where that fails.
+fn sync(directory: &Path) -> Option<String> {
     steps::before("sync the directory");
-    let synced = File::open(directory_of(file)).and_then(|directory| directory.sync_all());
+    let synced = File::open(directory).and_then(|directory| directory.sync_all());
     synced.err().map(|error| format!("a loss of power may undo it: its directory could not be synced ({error})"))
-}
-
-/// Whether two files are one.
-fn same_file(one: &fs::Metadata, other: &fs::Metadata) -> bool {
-    use std::os::unix::fs::MetadataExt;
-    (one.dev(), one.ino()) == (other.dev(), other.ino())
 }

@@ -1,13 +1,13 @@
 //! Temporary files: hidden, with process and random number in their names, made new, and removed by nobody but the run that
 //! made them.
 
+use super::owned::Owned;
 use crate::steps;
 use std::ffi::OsStr;
-use std::fs::{self, File, Metadata, OpenOptions, Permissions};
+use std::fs::{self, File, OpenOptions};
 use std::hash::{BuildHasher, RandomState};
 use std::io::{self, ErrorKind, Write};
-use std::os::unix::ffi::OsStrExt;
-use std::os::unix::fs::{fchown, MetadataExt, OpenOptionsExt, PermissionsExt};
+use std::os::unix::fs::OpenOptionsExt;
 use std::path::{Path, PathBuf};
 
 const PREFIX: &str = ".csorvelin-";
@@ -15,16 +15,25 @@ const PREFIX: &str = ".csorvelin-";
 /// A file is written in pieces of this many bytes.
 const PIECE: usize = 4096;
 
-const PERMISSIONS: u32 = 0o7777;
 const OWNER_READS_AND_WRITES: u32 = 0o600;
 const NEW_FILE: u32 = 0o666;
 
-/// Whether a name is one of a temporary file, which a stopped writer may have left.
-pub fn is_ours(name: &OsStr) -> bool {
-    name.as_bytes().starts_with(PREFIX.as_bytes())
+fn new_name() -> String {
+    format!("{PREFIX}{}-{:016x}", std::process::id(), random())
 }
 
-/// A number that no other process has.
+/// Whether a name is one of a temporary file, which a stopped writer may have left.
+pub fn is_ours(name: &OsStr) -> bool {
+    let parts = name.to_str().and_then(|name| name.strip_prefix(PREFIX)).and_then(|rest| rest.split_once('-'));
+    parts.is_some_and(|(process, random)| {
+        !process.is_empty()
+            && process.bytes().all(|digit| digit.is_ascii_digit())
+            && random.len() == 16
+            && random.bytes().all(|digit| digit.is_ascii_hexdigit())
+    })
+}
+
+/// A number that nobody can guess.
 pub fn random() -> u64 {
     RandomState::new().hash_one(std::process::id())
 }
@@ -33,43 +42,28 @@ pub fn random() -> u64 {
 pub struct Temporary {
     handle: File,
     path: PathBuf,
-    /// The mode that it has taken over.
-    mode: Option<Permissions>,
     renamed: bool,
 }
 
 impl Temporary {
     /// A new file in a directory. Where it is to replace another, nobody reads it who does not read that one: group and
     /// others not at all until it has that one's owner and group, its owner only if the other's may.
-    pub fn create(directory: &Path, replaced: Option<&Metadata>) -> io::Result<Temporary> {
+    pub fn create(directory: &Path, replaced: Option<&Owned>) -> io::Result<Temporary> {
         steps::before("create the temporary file");
-        let mode = replaced.map_or(NEW_FILE, |replaced| replaced.mode() & OWNER_READS_AND_WRITES);
+        let mode = replaced.map_or(NEW_FILE, |replaced| replaced.mode & OWNER_READS_AND_WRITES);
         loop {
-            let path = directory.join(format!("{PREFIX}{}-{:016x}", std::process::id(), random()));
+            let path = directory.join(new_name());
             match OpenOptions::new().write(true).create_new(true).mode(mode).open(&path) {
-                Ok(handle) => return Ok(Temporary { handle, path, mode: None, renamed: false }),
+                Ok(handle) => return Ok(Temporary { handle, path, renamed: false }),
                 Err(error) if error.kind() == ErrorKind::AlreadyExists => continue,
                 Err(error) => return Err(error),
             }
         }
     }
 
-    /// Gives the file another's owner, group and mode.
-    pub fn take_over(&mut self, replaced: &Metadata) -> io::Result<()> {
-        steps::before("set owner and mode");
-        let own = |metadata: &Metadata| (metadata.uid(), metadata.gid(), metadata.mode() & PERMISSIONS);
-        let (uid, gid, mode) = own(replaced);
-        let now = self.handle.metadata()?;
-        let changed = |now: u32, wanted: u32| (now != wanted).then_some(wanted);
-        if (now.uid(), now.gid()) != (uid, gid) {
-            fchown(&self.handle, changed(now.uid(), uid), changed(now.gid(), gid))?;
-        }
-        self.handle.set_permissions(Permissions::from_mode(mode))?;
-        if own(&self.handle.metadata()?) != own(replaced) {
-            return Err(io::Error::other("the file system has others"));
-        }
-        self.mode = Some(Permissions::from_mode(mode));
-        Ok(())
+    /// Gives the file another's owner, group, mode and list.
+    pub fn take_over(&self, owned: &Owned) -> io::Result<()> {
+        owned.give(&self.handle)
     }
 
     pub fn write(&mut self, bytes: &[u8]) -> io::Result<()> {
@@ -77,10 +71,10 @@ impl Temporary {
             steps::before("write a piece");
             self.handle.write_all(piece)?;
         }
-        if let Some(mode) = &self.mode {
-            // The system takes set-user and set-group bits away from a file that is written to.
-            self.handle.set_permissions(mode.clone())?;
-        }
+        Ok(())
+    }
+
+    pub fn sync(&self) -> io::Result<()> {
         steps::before("sync the temporary file");
         self.handle.sync_all()
     }
@@ -109,6 +103,21 @@ impl Drop for Temporary {
         if !self.renamed {
             // Where it cannot be removed it stays, hidden and harmless.
             let _ = fs::remove_file(&self.path);
+        }
+    }
+}
+
+#[cfg(test)]
+mod tests {
+    use super::*;
+
+    #[test]
+    fn temporary_names_are_told_from_a_user_s() {
+        assert!(is_ours(new_name().as_ref()));
+        for name in
+            [".csorvelin-mine", ".csorvelin-", ".csorvelin-7-", "csorvelin-7-0123456789abcdef", ".csorvelin-7-0123"]
+        {
+            assert!(!is_ours(name.as_ref()), "{name}");
         }
     }
 }

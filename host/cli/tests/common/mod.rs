@@ -1,11 +1,16 @@
 //! Running the command in a directory of its own: `csorvelin`, or in the package `stopping` the one with stops.
 #![allow(dead_code)]
 
+pub mod json;
+
 use csorvelin_differential::{cases, random::Random};
-use csorvelin_model::archive;
-use csorvelin_model::case::Case;
+use csorvelin_model::case::{Case, QUANTITIES};
+use csorvelin_model::equations::work_out;
+use csorvelin_model::{archive, ranges};
 use std::collections::BTreeMap;
+use std::ffi::OsStr;
 use std::fs::Metadata;
+use std::io::Write;
 use std::os::unix::fs::{MetadataExt, PermissionsExt};
 use std::os::unix::process::CommandExt;
 use std::path::{Path, PathBuf};
@@ -93,7 +98,7 @@ impl Place {
         fs::set_permissions(self.path(name), fs::Permissions::from_mode(mode)).unwrap();
     }
 
-    pub fn command(&self, words: &[&str]) -> Command {
+    pub fn command(&self, words: &[impl AsRef<OsStr>]) -> Command {
         let mut command = Command::new(program());
         command.args(words).current_dir(&self.directory).stdin(Stdio::null());
         command
@@ -107,8 +112,25 @@ impl Place {
         command
     }
 
-    pub fn run(&self, words: &[&str]) -> Ran {
+    pub fn run(&self, words: &[impl AsRef<OsStr>]) -> Ran {
         Ran::of(self.command(words).output().unwrap())
+    }
+
+    /// A run with these bytes on standard input.
+    pub fn run_on(&self, input: &[u8], words: &[impl AsRef<OsStr>]) -> Ran {
+        let mut command = self.command(words);
+        let mut child = command.stdin(Stdio::piped()).stdout(Stdio::piped()).stderr(Stdio::piped()).spawn().unwrap();
+        let mut to = child.stdin.take().unwrap();
+        thread::scope(|scope| {
+            // A command that has read enough closes its end.
+            scope.spawn(move || drop(to.write_all(input)));
+            Ran::of(child.wait_with_output().unwrap())
+        })
+    }
+
+    /// An archive of no record, by the command.
+    pub fn archive(&self, name: &str) {
+        self.run(&["new", name]).ends(0);
     }
 }
 
@@ -229,4 +251,82 @@ pub fn with(archive: &[u8], case: &Case) -> Vec<u8> {
     bytes.resize(archive.len() + 96, 0);
     assert_eq!(archive::file(&mut bytes, used, &case.encode()).0, 0);
     bytes
+}
+
+/// The archive of these cases, filed one after another by the model.
+pub fn archive_with(cases: &[Case]) -> Vec<u8> {
+    cases.iter().fold(archive::trailer(0), |archive, case| with(&archive, case))
+}
+
+/// A case as a record, by the model.
+pub fn record(case: &Case) -> Vec<u8> {
+    archive::record(&case.encode(), &work_out(&case.encode()).unwrap())
+}
+
+/// An archive of these records, whether a call would have filed them or not.
+pub fn archive_of_records(records: &[Vec<u8>]) -> Vec<u8> {
+    [records.concat(), archive::trailer(records.len() as u64)].concat()
+}
+
+/// An archive of a case `n` times, with dossiers from 1 on.
+pub fn copies(case: &Case, n: u64) -> Vec<u8> {
+    let mut records = record(case).repeat(n as usize);
+    for (record, dossier) in records.chunks_mut(96).zip(1..) {
+        record[8..16].copy_from_slice(&u64::to_le_bytes(dossier));
+    }
+    [records, archive::trailer(n)].concat()
+}
+
+/// The case of P1.
+pub fn p1() -> Case {
+    let patterns = [100f64, 0., 1., 0., 0., 0.].map(f64::to_bits);
+    Case { kind: 4, row: 1, route: 1, user: 0, count: 0, dossier: 7, patterns }
+}
+
+/// Cases of every kind and row, so many of each, with dossiers from 1 on.
+pub fn of_every_row(times: usize, random: &mut Random) -> Vec<Case> {
+    let rows = cases::kinds_and_rows().into_iter().flat_map(|row| std::iter::repeat_n(row, times));
+    rows.zip(1..).map(|((kind, row), dossier)| Case { dossier, ..cases::valid_of(kind, row, random) }).collect()
+}
+
+/// A case as fields, with the quantities that its kind lists as patterns.
+pub fn fields(case: &Case) -> Vec<String> {
+    let Case { kind, row, route, user, count, dossier, patterns } = case;
+    let whole = [format!("kind={kind}"), format!("row={row}"), format!("route={route}"), format!("user={user}")];
+    let listed = ranges::listed(*kind, *row).into_iter();
+    let quantities = listed.map(|listed| format!("{}={:#018x}", QUANTITIES[listed.index], patterns[listed.index]));
+    whole.into_iter().chain([format!("T={count}"), format!("dossier={dossier}")]).chain(quantities).collect()
+}
+
+/// The columns that make a case.
+pub const COLUMNS: &str = "kind,row,route,user,T,dossier,a,b,c,d,e,f";
+
+/// Cases as CSV: quantities that their kinds list as decimals, or as patterns where there is none; the others blank where
+/// they are zero.
+pub fn csv(cases: &[Case]) -> String {
+    let lines = cases.iter().map(|case| {
+        let Case { kind, row, route, user, count, dossier, patterns } = case;
+        let listed = ranges::listed(*kind, *row);
+        let quantities = patterns.iter().enumerate().map(|(index, &pattern)| match f64::from_bits(pattern) {
+            _ if pattern == 0 && listed.iter().all(|listed| listed.index != index) => String::new(),
+            value if value.is_finite() => format!("{value:e}"),
+            _ => format!("{pattern:#x}"),
+        });
+        let quantities: Vec<String> = quantities.collect();
+        format!("{kind},{row},{route},{user},{count},{dossier},{}\n", quantities.join(","))
+    });
+    format!("{COLUMNS}\n") + &lines.collect::<String>()
+}
+
+/// A command's words with further ones behind.
+pub fn words(first: &[&str], further: &[impl AsRef<str>]) -> Vec<String> {
+    let first = first.iter().map(|word| word.to_string());
+    first.chain(further.iter().map(|word| word.as_ref().to_string())).collect()
+}
+
+/// Whether a program of the system can be run.
+pub fn installed(program: &str) -> bool {
+    let mut command = Command::new(program);
+    command.arg("--version").stdin(Stdio::null()).stdout(Stdio::null()).stderr(Stdio::null());
+    command.status().is_ok_and(|status| status.success())
 }
