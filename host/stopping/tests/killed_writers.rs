@@ -204,6 +204,28 @@ fn an_archive_changed_by_its_user_meanwhile_is_left_alone() {
     }
 }
 
+/// The folder that the archive was found in is the one that is written in, whatever its name leads to by then.
+#[test]
+fn a_folder_swapped_for_another_meanwhile_leads_nobody_astray() {
+    for (n, step) in (1..).zip(STEPS) {
+        let place = Place::new("swapped_folder");
+        for folder in ["folder", "other"] {
+            fs::create_dir(place.path(folder)).unwrap();
+            place.write(&format!("{folder}/archive"), &archive_of(2, &mut Random::new(602)));
+        }
+        let other = place.read("other/archive");
+        let writer = paused(&place, &filing("folder/archive", "dossier=9"), n, step);
+        fs::rename(place.path("folder"), place.path("moved")).unwrap();
+        std::os::unix::fs::symlink("other", place.path("folder")).unwrap();
+        resumed(writer).ends(0);
+        assert_eq!(place.dossiers("moved/archive"), [1, 2, 9], "{step}");
+        assert_eq!(place.read("other/archive"), other, "{step}");
+        for folder in ["moved", "other"] {
+            assert_eq!(Place { directory: place.path(folder) }.names(), ["archive"], "{step}");
+        }
+    }
+}
+
 /// Between the step that gives a new archive its name and the one that takes the temporary name away another may file.
 #[test]
 fn a_new_archive_is_filed_into_before_its_maker_ends() {
