@@ -115,7 +115,7 @@ fn a_case_or_csv_without_end_is_refused_in_little_memory() {
     let place = Place::new("endless_cases");
     place.run(&["new", "archive"]).ends(0);
     let before = place.files();
-    let most = 32 << 10;
+    let most = 64 << 10;
     for case in ["-", "/dev/zero"] {
         for words in
             [&["work-out", "--case", case][..], &["explain", "--case", case], &["file", "archive", "--case", case]]
