@@ -54,9 +54,9 @@ fn what_was_done_is_said_on_standard_error() {
             assert_eq!(place.read("shown"), place.read("archive")[96..160]);
             place.run(&filing("archive", "dossier=7")).ends(22);
             place.write("cases.csv", b"kind,row,dossier,a,b,c\n4,1,9,5,0,1\n4,1,10,5,0,1\n");
-            done(&["import", "archive", "cases.csv"], "2 read, 0 refused, 2 filed in archive as records 2 to 3");
+            done(&["import", "archive", "cases.csv"], "2 offered, 0 refused, 2 filed in archive as records 2 to 3");
             place.write("one.csv", b"kind,row,dossier,a,b,c\n4,1,11,5,0,1\n");
-            done(&["import", "archive", "one.csv"], "1 read, 0 refused, 1 filed in archive as record 4");
+            done(&["import", "archive", "one.csv"], "1 offered, 0 refused, 1 filed in archive as record 4");
             assert_eq!(place.read("archive").len(), 16 + 5 * 96);
             place.run(&["verify", "archive"]).ends(0);
             assert_eq!(place.names(), ["archive", "cases.csv", "one.csv", "p1", "shown"]);
@@ -74,7 +74,11 @@ fn an_import_that_filed_a_part_says_which() {
         let ran = run(&place, &["import", "archive", "cases.csv", "--keep-going"], output);
         let lines: Vec<&str> = ran.ends(71).err.lines().collect();
         assert!(lines[0].starts_with("cases.csv:3: refused 2: "), "{}", ran.err);
-        assert!(lines[1].starts_with("csorvelin: 2 read, 1 refused, 1 filed in archive as record 0; "), "{}", ran.err);
+        assert!(
+            lines[1].starts_with("csorvelin: 2 offered, 1 refused, 1 filed in archive as record 0; "),
+            "{}",
+            ran.err
+        );
         assert_eq!(place.read("archive").len(), 16 + 96);
     }
 }
