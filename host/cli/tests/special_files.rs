@@ -71,6 +71,18 @@ fn what_is_no_regular_file_is_no_archive() {
     assert_eq!(place.names(), names);
 }
 
+/// Nor is standard input waited for, which here says nothing.
+#[test]
+fn what_is_no_archive_is_refused_before_input_is_read() {
+    let (shared, _socket) = special("special_and_input");
+    for words in [["import", "fifo", "-"], ["import", "directory", "-"]] {
+        let mut command = shared.place.command(&words);
+        let mut child = command.stdin(Stdio::piped()).stdout(Stdio::piped()).stderr(Stdio::piped()).spawn().unwrap();
+        let _silent = child.stdin.take();
+        ended(child).ends(66);
+    }
+}
+
 #[test]
 fn what_is_no_regular_file_is_not_written_over() {
     let (shared, _socket) = special("special_outputs");

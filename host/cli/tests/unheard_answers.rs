@@ -178,6 +178,31 @@ fn a_reader_that_has_seen_enough() {
     assert_eq!(ran.err, "");
 }
 
+/// As on a disk that fills: a part of the answer is taken, the rest is not, and nothing is tried again.
+#[test]
+fn standard_output_that_takes_a_part() {
+    let place = Place::new("a_part");
+    place.write("big", &archive_of(500, &mut Random::new(962)));
+    place.write("archive", &archive::trailer(0));
+    let limited = |words: &[&str], length: usize| {
+        place.write("out", &vec![0; length]);
+        let out = std::fs::OpenOptions::new().append(true).open(place.path("out")).unwrap();
+        Ran::of(place.command_after("trap '' XFSZ && ulimit -f 8", words).stdout(out).output().unwrap())
+    };
+    // Blocks of 512 or of 1,024 bytes: the limit is one of two.
+    let end = if limited(&["list", "big", "--csv"], 0).ends(74).err.is_empty() { 0 } else { place.read("out").len() };
+    assert!([4096, 8192].contains(&end), "{end}");
+    for length in [end - 100, end - 1] {
+        let ran = limited(&["list", "big", "--csv"], length);
+        assert_eq!((ran.ends(74).err.lines().count(), place.read("out").len()), (1, end), "{}", ran.err);
+        let dossier = format!("dossier={length}");
+        let ran = limited(&filing("archive", &dossier), length);
+        assert!(ran.ends(71).err.starts_with("csorvelin: filed in archive as record "), "{}", ran.err);
+        assert_eq!((ran.err.lines().count(), place.read("out").len()), (1, end), "{}", ran.err);
+    }
+    assert_eq!(place.read("archive").len(), 16 + 2 * 96);
+}
+
 /// A folder in which names can be written but not read cannot be synced: it is filed, and a loss of power may undo it.
 #[test]
 fn a_filing_whose_folder_cannot_be_synced() {
