@@ -1,8 +1,10 @@
-/* Calls every function of csorvelin.h and prints what each gives. The output is
- * compared with interface.expected, whose figures are exact values rounded up. */
+/* Calls every function of csorvelin.h and prints what each gives, and each
+ * constant beside what the library itself has. The output is compared with
+ * interface.expected, whose figures are exact values rounded up. */
 #include <inttypes.h>
 #include <stdbool.h>
 #include <stdio.h>
+#include <stdlib.h>
 #include <string.h>
 
 #include "csorvelin.h"
@@ -64,18 +66,25 @@ static const struct inputs pencil[] = {
 static const char *const pencil_names[] = {"P1", "P2", "P3", "P4", "P5",  "P6",
                                            "P7", "P8", "P9", "P9 with e 2^-54", "P10"};
 
-/* One case for each refusal from the input. */
-static const struct inputs refused[] = {
-    {8, 1, 1, 0, 0, 7, {100, 0, 1}},
-    {4, 2, 1, 0, 0, 7, {100, 0, 1}},
-    {2, 2, 2, 0, 0, 7, {1, 0, 1}},
-    {4, 1, 1, 1, 0, 7, {100, 0, 1}},
-    {1, 0, 1, 0, 30, 7, {1, 1, 1, 1}},
-    {4, 1, 1, 0, 0, 0, {100, 0, 1}},
-    {4, 1, 1, 0, 0, 7, {100, -0.0, 1}},
-    {4, 1, 1, 0, 0, 7, {100, 0, 1, 1}},
-    {4, 1, 1, 0, 0, 7, {1000001, 0, 1}},
-    {5, 0, 1, 0, 250, 7, {16, 1, 1, 0x1p-52, 0}},
+/* A constant's name and value. */
+#define NAMED(constant) #constant, constant
+
+/* A case for each refusal from its fields, right but for that. */
+static const struct {
+    const char *name;
+    uint32_t refusal;
+    struct inputs in;
+} refused[] = {
+    {NAMED(CSORVELIN_KIND_UNKNOWN), {8, 1, 1, 0, 0, 7, {100, 0, 1}}},
+    {NAMED(CSORVELIN_ROW_UNKNOWN), {4, 2, 1, 0, 0, 7, {100, 0, 1}}},
+    {NAMED(CSORVELIN_ROUTE_NOT_ALLOWED), {2, 2, 2, 0, 0, 7, {1, 0, 1}}},
+    {NAMED(CSORVELIN_USER_NOT_ALLOWED), {4, 1, 1, 1, 0, 7, {100, 0, 1}}},
+    {NAMED(CSORVELIN_COUNT_NOT_ALLOWED), {1, 0, 1, 0, 30, 7, {1, 1, 1, 1}}},
+    {NAMED(CSORVELIN_DOSSIER_ZERO), {4, 1, 1, 0, 0, 0, {100, 0, 1}}},
+    {NAMED(CSORVELIN_NOT_A_NUMBER), {4, 1, 1, 0, 0, 7, {100, -0.0, 1}}},
+    {NAMED(CSORVELIN_UNLISTED_NOT_ZERO), {4, 1, 1, 0, 0, 7, {100, 0, 1, 1}}},
+    {NAMED(CSORVELIN_OVER_LIMIT), {4, 1, 1, 0, 0, 7, {1000001, 0, 1}}},
+    {NAMED(CSORVELIN_FRACTIONS_OVER_ONE), {5, 0, 1, 0, 250, 7, {16, 1, 1, 0x1p-52, 0}}},
 };
 
 static void print_worked(const char *name, const uint8_t *bytes, size_t length)
@@ -96,7 +105,7 @@ static void work_out_all(void)
     make_case(bytes, &pencil[0]);
     print_worked("63 bytes", bytes, sizeof bytes - 1);
     for (size_t i = 0; i < sizeof refused / sizeof *refused; i++) {
-        make_case(bytes, &refused[i]);
+        make_case(bytes, &refused[i].in);
         print_worked("refused", bytes, sizeof bytes);
     }
 }
@@ -161,8 +170,129 @@ static void print_trailer(uint64_t used)
            get_little_endian(trailer + 12, 4));
 }
 
+static void compare(const char *name, uint64_t constant, uint64_t answer)
+{
+    printf("%s is %" PRIu64 ", the library has %" PRIu64 "%s\n", name, constant, answer,
+           constant == answer ? "" : ": NOT THE SAME");
+}
+
+#define COMPARE(constant, answer) compare(#constant, constant, answer)
+
+/* A case for each compartment, with a figure in that one alone. */
+static const struct {
+    const char *name;
+    uint64_t compartment;
+    struct inputs in;
+} alone[] = {
+    {NAMED(CSORVELIN_STP), {5, 0, 1, 0, 250, 1, {16, 0.125, 1, 0, 0}}},
+    {NAMED(CSORVELIN_SURFACE_WATER), {2, 3, 2, 0, 0, 2, {1.0 / 64, 0, 1}}},
+    {NAMED(CSORVELIN_AIR), {5, 0, 1, 0, 250, 3, {16, 0.125, 0, 1, 0}}},
+    {NAMED(CSORVELIN_SOIL), {5, 0, 1, 0, 250, 4, {16, 0.125, 0, 0, 1}}},
+};
+
+/* Room for these, whatever the header says. */
+static uint8_t room[1024];
+
+static uint32_t worked(const struct inputs *in, uint64_t figures[4])
+{
+    uint8_t bytes[CSORVELIN_CASE_SIZE];
+    make_case(bytes, in);
+    return csorvelin_work_out(bytes, sizeof bytes, figures);
+}
+
+static uint32_t filed(size_t size, uint64_t *used, const struct inputs *in)
+{
+    uint8_t bytes[CSORVELIN_CASE_SIZE];
+    uint64_t number;
+    make_case(bytes, in);
+    return csorvelin_file(room, size, used, bytes, sizeof bytes, &number);
+}
+
+/* The one length that is not refused as 0 is; were there more, their sum. */
+static uint64_t case_size(void)
+{
+    static const uint8_t bytes[256];
+    uint64_t figures[4], sum = 0;
+    uint32_t none = csorvelin_work_out(bytes, 0, figures);
+    for (size_t length = 0; length <= sizeof bytes; length++)
+        if (csorvelin_work_out(bytes, length, figures) != none)
+            sum += length;
+    return sum;
+}
+
+/* The one compartment in which a record is the worst and its case has a
+ * figure; were there more, their sum. */
+static uint64_t compartment_of(uint64_t used, uint64_t record, const struct inputs *in)
+{
+    uint64_t figures[4], number, sum = 0;
+    worked(in, figures);
+    for (uint64_t m = 1; m <= 4; m++)
+        if (csorvelin_worst(room, sizeof room, used, m, &number) == 0 && number == record
+            && figures[m - 1] != 0)
+            sum += m;
+    return sum;
+}
+
+/* The most records that a trailer may name, by halving. */
+static uint64_t most_records(void)
+{
+    uint64_t low = 0, high = 1 << 20, start, length;
+    size_t size = (size_t)CSORVELIN_USED_LENGTH(high);
+    uint8_t *large = calloc(size, 1); /* pages that nobody writes take no memory */
+    while (large != NULL && high - low > 1) {
+        uint64_t n = (low + high) / 2, used = CSORVELIN_USED_LENGTH(n);
+        uint8_t *trailer = large + used - CSORVELIN_TRAILER_SIZE;
+        put_little_endian(trailer, CSORVELIN_RECORD_SIZE * n, 8);
+        put_little_endian(trailer + 8, n, 4);
+        put_little_endian(trailer + 12, 1, 4);
+        if (csorvelin_show(large, size, used, n - 1, &start, &length) == 0)
+            low = n;
+        else
+            high = n;
+    }
+    free(large);
+    return low;
+}
+
+/* Each constant of the header, and what the library gives in its place. */
+static void compare_constants(void)
+{
+    static const uint8_t zeros[64];
+    uint64_t figures[4], used, number, start, length;
+    unsigned version[3];
+    char more;
+    int parts = sscanf(CSORVELIN_VERSION, "%u.%u.%u%c", &version[0], &version[1], &version[2], &more);
+    printf("CSORVELIN_VERSION is %s\n", parts == 3 ? "three numbers" : "NOT THREE NUMBERS");
+
+    COMPARE(CSORVELIN_CASE_SIZE, case_size());
+    COMPARE(CSORVELIN_ACCEPTED, worked(&pencil[0], figures));
+    COMPARE(CSORVELIN_CASE_SIZE_WRONG, csorvelin_work_out(zeros, 1, figures));
+    for (size_t i = 0; i < sizeof refused / sizeof *refused; i++)
+        compare(refused[i].name, refused[i].refusal, worked(&refused[i].in, figures));
+
+    COMPARE(CSORVELIN_NO_SPACE, csorvelin_empty(room, 0, &used));
+    csorvelin_empty(room, sizeof room, &used);
+    COMPARE(CSORVELIN_TRAILER_SIZE, used);
+    COMPARE(CSORVELIN_USED_LENGTH(0), used);
+    COMPARE(CSORVELIN_BROKEN, csorvelin_show(zeros, sizeof zeros, used, 0, &start, &length));
+    COMPARE(CSORVELIN_NO_RECORD, csorvelin_show(room, sizeof room, used, 0, &start, &length));
+    COMPARE(CSORVELIN_NO_SPACE, filed((size_t)used, &used, &alone[0].in));
+    for (size_t i = 0; i < sizeof alone / sizeof *alone; i++)
+        filed(sizeof room, &used, &alone[i].in);
+    COMPARE(CSORVELIN_USED_LENGTH(1 + 3), used);
+    COMPARE(CSORVELIN_HELD, filed(sizeof room, &used, &alone[0].in));
+    csorvelin_show(room, sizeof room, used, 3, &start, &length);
+    COMPARE(CSORVELIN_RECORD_SIZE, length);
+    COMPARE(CSORVELIN_RECORD_SIZE, start / 3);
+    COMPARE(CSORVELIN_COMPARTMENT_UNKNOWN, csorvelin_worst(room, sizeof room, used, 5, &number));
+    for (size_t i = 0; i < sizeof alone / sizeof *alone; i++)
+        compare(alone[i].name, alone[i].compartment, compartment_of(used, i, &alone[i].in));
+    COMPARE(CSORVELIN_MOST_RECORDS, most_records());
+}
+
 int main(void)
 {
+    compare_constants();
     work_out_all();
 
     memset(memory, 0xa5, sizeof memory);
@@ -178,7 +308,7 @@ int main(void)
     used = file(SIZE, used, &pencil[0]);
     show(used, 0);
     used = file(SIZE, used, &pencil[0]);
-    used = file(SIZE, used, &refused[0]);
+    used = file(SIZE, used, &refused[0].in);
     used = file(SIZE, used, &pencil[6]);
     used = file(SIZE - 1, used, &pencil[7]);
     used = file(SIZE, used, &pencil[7]);

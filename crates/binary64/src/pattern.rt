@@ -1,8 +1,8 @@
-// A pattern taken apart by shifts and masks, its significand and shift, its order, and the f64 that it stands for.
+// A pattern taken apart by shifts and masks, its significand and shift, and the f64 that it stands for.
 ghost use mathlib.Core.Path.{_≡_};
 ghost use mathlib.Core.Bool.{true, not};
 ghost use Prim.Native.Nat.{_*_, _^_, _≤_, _<_};
-ghost use lib.Dec.{T, leb};
+ghost use lib.Dec.{T};
 ghost use lib.Ieee.{binary64, ofBits, toBits, isNan};
 ghost use Rattle.binary64.specs.Pattern.{signOf, exponentOf, fractionOf, isUnsignedFinite};
 ghost use Rattle.binary64.specs.Quantity.{whole, significandOf, shiftOf};
@@ -61,13 +61,6 @@ pub fn parts_of(bits: u64) -> Parts
         significand: 0x10_0000_0000_0000 + fraction,
         shift: (exponent - 1) as usize,
     }
-}
-
-// Whether the exact value is at most that of the limit's pattern: patterns are in the order of their values.
-pub fn at_most(bits: u64, limit: u64) -> bool
-    ensures { λ r. ⌜ r ≡ leb (whole bits) (whole limit) ⌝ }
-{
-    bits <= limit
 }
 
 // The f64 of a pattern; it is no NaN.

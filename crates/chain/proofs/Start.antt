@@ -2,12 +2,12 @@
 --   laid, lay-done           `lay`: the limbs below are 0, and x * 2 ^ (at % 32) stands above them
 --   lay-stays                `lay`: the limbs that it does not write
 --   complement-done          `complement`: nothing is borrowed
---   term-done, add-term-done `lay_term`, `add_term`
+--   add-term-done            `add_term`
 --   term-small, sum-done     `lay_sum`: nothing is carried out
 use mathlib.Core.Path.{_≡_, ap, _∙_}
 use mathlib.Core.List.{List, [], _∷_, _++_}
 use Prim.Native.Nat.{ℕ, zero, suc, _+_, _-_, _*_, _/_, _%_, _^_, _≤_, _<_}
-use native.Mathlib.Nat.{mul-lt-mul-of-pos-right, mul-le-mul-right}
+use native.Mathlib.Nat.{mul-lt-mul-of-pos-right}
 use native.Mathlib.Omega.{arith}
 use lib.ListN.{length, take, drop, getD, set}
 use lib.Pow.{pow-pos, pow-add, pow-mono}
@@ -54,12 +54,6 @@ complement-done l e n m t b lo hi h len p s el eh hm f =
     let w : b * 2 ^ (32 * length (take n l)) ≡ b * 2 ^ (32 * n) = ap (λ (k : ℕ). b * 2 ^ (32 * k)) (length-take-le n l h) in
     no-borrow (value (take n (e ++ drop n l))) m t b (2 ^ (32 * n)) (omega arith) (value-below (e ++ drop n l) n f) hm
 
--- u is what `lay` wrote, g the weight as `wide` gives it
-pub term-done : (v u g w s k : ℕ) → v ≡ u * g + 0 → u ≡ s * 2 ^ k → g ≡ w → v ≡ w * s * 2 ^ k
-term-done v u g w s k ev eu eg =
-    let a : u * g ≡ s * 2 ^ k * w = (λ j. eu j * eg j) in
-    omega arith
-
 -- the limbs of l from k / 32 on became f, and y is the term's number in them
 pub add-term-done : (l f : List ℕ) (k r y x : ℕ) → k / 32 ≤ length l → y ≡ x * 2 ^ (k % 32)
     → value f + r * 2 ^ (32 * length (take (length l - k / 32) (drop (k / 32) l))) ≡ value (take (length l - k / 32) (drop (k / 32) l)) + y
@@ -67,13 +61,11 @@ pub add-term-done : (l f : List ℕ) (k r y x : ℕ) → k / 32 ≤ length l →
 add-term-done l f k r y x h ey s = omega (arith, above l f (k / 32) _ _ h s, weight-above l (k / 32) r h, laid y x k ey)
 
 -- a term takes at most half of the numbers of n limbs
-pub term-small : (w s k n : ℕ) → w < 4294967296 → s < 2 ^ 64 → k / 32 + 5 ≤ n → 2 * (w * s * 2 ^ k) < 2 ^ (32 * n)
-term-small w s k n hw hs h =
-    let a : w * s ≤ 4294967296 * s = mul-le-mul-right {m = w} {n = 4294967296} s (omega arith) in
-    let b : w * s < 79228162514264337593543950336 = omega arith in
-    let c : w * s * 2 ^ k < 79228162514264337593543950336 * 2 ^ k = mul-lt-mul-of-pos-right b (pow-pos k) in
-    let d : 2 ^ (97 + k) ≡ 158456325028528675187087900672 * 2 ^ k = pow-add 2 97 k in
-    let e : 2 ^ (97 + k) ≤ 2 ^ (32 * n) = pow-mono {i = 97 + k} {j = 32 * n} (omega arith) in
+pub term-small : (s k n : ℕ) → s < 2 ^ 64 → k / 32 + 3 ≤ n → 2 * (s * 2 ^ k) < 2 ^ (32 * n)
+term-small s k n hs h =
+    let a : s * 2 ^ k < 18446744073709551616 * 2 ^ k = mul-lt-mul-of-pos-right hs (pow-pos k) in
+    let b : 2 ^ (65 + k) ≡ 36893488147419103232 * 2 ^ k = pow-add 2 65 k in
+    let c : 2 ^ (65 + k) ≤ 2 ^ (32 * n) = pow-mono {i = 65 + k} {j = 32 * n} (omega arith) in
     omega arith
 
 no-carry : (v r w a b : ℕ) → v + r * w ≡ a + b → 2 * a < w → 2 * b < w → v ≡ a + b

@@ -1,8 +1,8 @@
-// Products: the number in the first limbs times a factor, or times all of them.
+// Products: the number in the first limbs times a factor.
 ghost use mathlib.Core.Path.{_≡_};
 ghost use Prim.Native.Nat.{_+_, _-_, _*_, _≤_, _<_};
 ghost use lib.ListN.{length, take, drop, getD};
-ghost use Rattle.natural.specs.Value.{value, productOf};
+ghost use Rattle.natural.specs.Value.{value};
 use natural::arithmetic::times_add;
 use natural::limb::high;
 use natural::limb::low;
@@ -23,19 +23,4 @@ pub fn grow(limbs: &mut [u32], n: usize, f: u64, more: u64) -> usize
     }
     limbs[n + 1] = high(carry);
     n + 2
-}
-
-// Multiplies the number in the first `start` limbs by the factors; returns how many limbs the product takes: `start`, or
-// more, of which the top one is not 0 if no factor is. The limbs above them stay.
-pub fn times_all(limbs: &mut [u32], start: usize, factors: &[u64]) -> usize
-    requires { ⌜ 2 * length (now factors) + start ≤ length (now limbs) ⌝ }
-    ensures { λ r. ⌜ (value (take r (now (limbs .exit))) ≡ value (take start (now (limbs .entry))) * productOf (now (factors .entry))) × (r ≤ start + 2 * length (now (factors .entry))) × (r ≤ length (now (limbs .entry))) × (start ≤ r) × (start < r → 0 < productOf (now (factors .entry)) → 0 < getD (now (limbs .exit)) (r - 1) 0) × (drop r (now (limbs .exit)) ≡ drop r (now (limbs .entry))) ⌝ }
-{
-    let mut n = start;
-    let mut i = 0;
-    while i < factors.len() {
-        n = grow(limbs, n, factors[i], 0);
-        i += 1;
-    }
-    n
 }

@@ -1,16 +1,14 @@
-// Wide starts: a number shifted up, a power of two less a number, and a sum of two terms.
+// Wide starts: a number shifted up, a power of two less a number, and a sum of two numbers shifted up.
 ghost use mathlib.Core.Path.{_≡_};
 ghost use Prim.Native.Nat.{_+_, _-_, _*_, _/_, _^_, _≤_, _<_, max};
 ghost use lib.ListN.{length, take, drop, getD};
 ghost use Rattle.natural.specs.Value.{value};
-use crate::products::grow;
 use natural::arithmetic::add;
 use natural::arithmetic::subtract;
 use natural::limb::high;
 use natural::limb::low;
 use natural::limb::multiply_step;
 use natural::limb::power;
-use natural::limb::wide;
 use natural::reading::in_use;
 
 fn clear(limbs: &mut [u32])
@@ -48,39 +46,25 @@ pub fn complement(limbs: &mut [u32], t: usize, m: u64) -> usize
     in_use(&limbs[..n])
 }
 
-// weight * significand * 2 ^ shift
-pub struct Term {
-    pub weight: u32,
-    pub significand: u64,
-    pub shift: usize,
-}
-
-fn lay_term(limbs: &mut [u32], weight: u32, significand: u64, shift: usize) -> usize
-    requires { ⌜ shift / 32 + 5 ≤ length (now limbs) ⌝ }
-    ensures { λ r. ⌜ (value (take r (now (limbs .exit))) ≡ weight * significand * 2 ^ shift) × (r ≤ shift / 32 + 5) × (2 * (weight * significand * 2 ^ shift) < 2 ^ (32 * length (now (limbs .entry)))) ⌝ }
+// Adds x * 2 ^ at; returns what is carried out of the top limb.
+fn add_term(limbs: &mut [u32], x: u64, at: usize) -> u32
+    requires { ⌜ at / 32 + 3 ≤ length (now limbs) ⌝ }
+    ensures { λ r. ⌜ value (now (limbs .exit)) + r * 2 ^ (32 * length (now (limbs .entry))) ≡ value (now (limbs .entry)) + x * 2 ^ at ⌝ }
 {
-    let n = lay(limbs, significand, shift);
-    grow(limbs, n, wide(weight), 0)
-}
-
-// Adds a term; returns what is carried out of the top limb.
-fn add_term(limbs: &mut [u32], weight: u32, significand: u64, shift: usize) -> u32
-    requires { ⌜ shift / 32 + 5 ≤ length (now limbs) ⌝ }
-    ensures { λ r. ⌜ (value (now (limbs .exit)) + r * 2 ^ (32 * length (now (limbs .entry))) ≡ value (now (limbs .entry)) + weight * significand * 2 ^ shift) × (2 * (weight * significand * 2 ^ shift) < 2 ^ (32 * length (now (limbs .entry)))) ⌝ }
-{
-    let mut other = [0u32; 5];
-    let m = lay_term(&mut other[..], weight, significand, shift % 32);
-    let n = shift / 32;
+    let mut other = [0u32; 3];
+    let m = lay(&mut other[..], x, at % 32);
+    let n = at / 32;
     add(&mut limbs[n..], &other[..m])
 }
 
-fn lay_sum(limbs: &mut [u32], a: Term, b: Term)
-    requires { ⌜ (a .shift / 32 + 5 ≤ length (now limbs)) × (b .shift / 32 + 5 ≤ length (now limbs)) ⌝ }
-    ensures { λ _. ⌜ value (now (limbs .exit)) ≡ a .weight * a .significand * 2 ^ a .shift + b .weight * b .significand * 2 ^ b .shift ⌝ }
+// Writes x * 2 ^ s + y * 2 ^ t into all limbs.
+fn lay_sum(limbs: &mut [u32], x: u64, s: usize, y: u64, t: usize)
+    requires { ⌜ (s / 32 + 3 ≤ length (now limbs)) × (t / 32 + 3 ≤ length (now limbs)) ⌝ }
+    ensures { λ _. ⌜ value (now (limbs .exit)) ≡ x * 2 ^ s + y * 2 ^ t ⌝ }
 {
-    let n = lay_term(limbs, a.weight, a.significand, a.shift);
+    let n = lay(limbs, x, s);
     clear(&mut limbs[n..]);
-    add_term(limbs, b.weight, b.significand, b.shift);
+    add_term(limbs, y, t);
 }
 
 fn larger(a: usize, b: usize) -> usize
@@ -92,13 +76,13 @@ fn larger(a: usize, b: usize) -> usize
     a
 }
 
-// Writes a sum of two terms; returns how many limbs are in use. It works on as many as the larger shift asks for, and those
+// Writes x * 2 ^ s + y * 2 ^ t; returns how many limbs are in use. It works on as many as the larger shift asks for, and those
 // above them stay.
-pub fn sum(limbs: &mut [u32], a: Term, b: Term) -> usize
-    requires { ⌜ max (a .shift) (b .shift) / 32 + 5 ≤ length (now limbs) ⌝ }
-    ensures { λ r. ⌜ (value (take r (now (limbs .exit))) ≡ a .weight * a .significand * 2 ^ a .shift + b .weight * b .significand * 2 ^ b .shift) × (r ≤ max (a .shift) (b .shift) / 32 + 5) × (0 < r → 0 < getD (now (limbs .exit)) (r - 1) 0) × (value (take (max (a .shift) (b .shift) / 32 + 5) (now (limbs .exit))) ≡ a .weight * a .significand * 2 ^ a .shift + b .weight * b .significand * 2 ^ b .shift) × (drop (max (a .shift) (b .shift) / 32 + 5) (now (limbs .exit)) ≡ drop (max (a .shift) (b .shift) / 32 + 5) (now (limbs .entry))) ⌝ }
+pub fn sum(limbs: &mut [u32], x: u64, s: usize, y: u64, t: usize) -> usize
+    requires { ⌜ max s t / 32 + 3 ≤ length (now limbs) ⌝ }
+    ensures { λ r. ⌜ (value (take r (now (limbs .exit))) ≡ x * 2 ^ s + y * 2 ^ t) × (r ≤ max s t / 32 + 3) × (0 < r → 0 < getD (now (limbs .exit)) (r - 1) 0) × (value (take (max s t / 32 + 3) (now (limbs .exit))) ≡ x * 2 ^ s + y * 2 ^ t) × (drop (max s t / 32 + 3) (now (limbs .exit)) ≡ drop (max s t / 32 + 3) (now (limbs .entry))) ⌝ }
 {
-    let n = larger(a.shift, b.shift) / 32 + 5;
-    lay_sum(&mut limbs[..n], a, b);
+    let n = larger(s, t) / 32 + 3;
+    lay_sum(&mut limbs[..n], x, s, y, t);
     in_use(&limbs[..n])
 }

@@ -10,7 +10,6 @@ use borrow.Author.Tests.{leb-true}
 use lib.Dec.{leb, eqb}
 use lib.Ieee.{Float}
 use lib.ListN.{getD}
-use Rattle.natural.specs.Value.{productOf}
 use Rattle.natural.proofs.Ceiling.{ceiling-at-most}
 use Rattle.binary64.proofs.Bools.{every, every-at}
 use Rattle.scenario.specs.Case.{refusalOf}
@@ -27,7 +26,7 @@ use Rattle.equations.specs.Ranges.{Within, InRange}
 use Rattle.equations.specs.Constants.{numbers}
 use Rattle.product.proofs.Ratios.{AtMost, at-most-times}
 use Rattle.equations.proofs.Chains.{others, gather}
-use Rattle.equations.proofs.Multiplied.{chain-at-most, remainder-at-most, term, next}
+use Rattle.equations.proofs.Multiplied.{productOf, chain-at-most, remainder-at-most, term, next}
 use Rattle.emission.proofs.Accepted.{figure-rounded}
 use Rattle.emission.proofs.InRanges.{in-range}
 use Rattle.emission.proofs.Cases.{by-row, with-loss, of-air, of-soil, each-value}

@@ -1,6 +1,6 @@
 -- Laws between a chain as the paper prints it and what the code multiplies.
 --   small, within-each                each quantity within its limit is up to the largest limit
---   chain-at-most, remainder-at-most, sum-at-most   what the code multiplies is at most the product of the limits
+--   productOf, chain-at-most, remainder-at-most, sum-at-most   what the code multiplies is at most the product of the limits
 --   figure, figure-sum                what the code returns is the exact value rounded up; here a figure is shown to fit 64 bits, from the limits
 use mathlib.Core.Path.{_≡_, refl, sym, ap, _∙_}
 use mathlib.Core.Bool.{Bool, true, _&&_}
@@ -12,7 +12,6 @@ use lib.Dec.{leb}
 use lib.Ieee.{Float}
 use borrow.Author.Tests.{leb-true}
 use Rattle.binary64.proofs.Bools.{both}
-use Rattle.natural.specs.Value.{productOf}
 use Rattle.product.specs.Ratio.{Ratio, _over_, _·_, _⊕_, oneLess, exactly, Same, roundedUp}
 use Rattle.product.specs.Chain.{Factor, quantity, less, chain}
 use Rattle.equations.specs.Equations.{microgram, micrograms}
@@ -36,6 +35,10 @@ within-each (x ∷ xs) [] h w = absurd w
 within-each (x ∷ xs) (m ∷ ms) h w =
     let s = both (leb m largest) (small ms) h in
     (up-to-largest x m (w .0) (leb-true m largest (s .0)), within-each xs ms (s .1) (w .1))
+
+unfoldable pub productOf : List ℕ → ℕ
+productOf [] = 1
+productOf (m ∷ ms) = m * productOf ms
 
 -- each quantity at most its limit
 pub chain-at-most : (xs : List Float) (ms : List ℕ) → Within xs ms → AtMost (chain (map quantity xs)) (productOf ms)

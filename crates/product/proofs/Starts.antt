@@ -90,7 +90,7 @@ pub start-remainder : (x : Float) (m n t : ℕ) → UpTo 1 x → Same (exactly x
 start-remainder x m n t u e f = less-across (whole (toBits binary64 x)) one m (2 ^ t) n (u .most) e f
 
 -- m / 2 ^ p and n / 2 ^ q, both over 2 ^ t
-lifted : (m p t : ℕ) → p ≤ t → Same ((1 * m * 2 ^ (t - p)) over 2 ^ t) (m over 2 ^ p)
+lifted : (m p t : ℕ) → p ≤ t → Same ((m * 2 ^ (t - p)) over 2 ^ t) (m over 2 ^ p)
 lifted m p t h =
     let s : t ≡ p + (t - p) = omega arith in
     let e : m * 2 ^ t ≡ m * (2 ^ p * 2 ^ (t - p)) = ap (λ (n : ℕ). m * 2 ^ n) s ∙ ap (λ (n : ℕ). m * n) (pow-add 2 p (t - p)) in
@@ -100,10 +100,10 @@ common : (x y D : ℕ) → Same ((x + y) over D) (x over D ⊕ y over D)
 common x y D = omega arith
 
 pub start-sum : (a b : Float) (m p n q t v : ℕ) → p ≤ t → q ≤ t → Same (exactly a) (m over 2 ^ p) → Same (exactly b) (n over 2 ^ q)
-    → v ≡ 1 * m * 2 ^ (t - p) + 1 * n * 2 ^ (t - q) → Same (v over 2 ^ t) (exactly a ⊕ exactly b)
+    → v ≡ m * 2 ^ (t - p) + n * 2 ^ (t - q) → Same (v over 2 ^ t) (exactly a ⊕ exactly b)
 start-sum a b m p n q t v hp hq ea eb ev =
-    let x : ℕ = 1 * m * 2 ^ (t - p) in
-    let y : ℕ = 1 * n * 2 ^ (t - q) in
+    let x : ℕ = m * 2 ^ (t - p) in
+    let y : ℕ = n * 2 ^ (t - q) in
     let P = pow-pos t in
     same-of (λ j. ev j over 2 ^ t) refl
     (same-trans ((x + y) over 2 ^ t) (x over 2 ^ t ⊕ y over 2 ^ t) (exactly a ⊕ exactly b) (mul-pos P P) (common x y (2 ^ t))

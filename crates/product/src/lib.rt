@@ -9,7 +9,6 @@ ghost use Rattle.product.specs.Chain.{quantity, less, chain};
 ghost use Rattle.product.specs.Ranges.{UpTo, Each, largest};
 use binary64::pattern::parts_of;
 use binary64::pattern::pattern_of;
-use chain::starts::Term;
 
 // A quantity as significand / 2^depth.
 struct Dyadic {
@@ -108,18 +107,14 @@ pub fn sum_up(a: f64, b: f64, quantities: &[f64], k: u64, d: u32) -> u64
     let p = dyadic_of(a);
     let q = dyadic_of(b);
     let depth = deeper(p.depth, q.depth);
-    let first = Term {
-        weight: 1,
-        significand: p.significand,
-        shift: depth - p.depth,
-    };
-    let second = Term {
-        weight: 1,
-        significand: q.significand,
-        shift: depth - q.depth,
-    };
-    let mut limbs = [0u32; 44];
-    let n = chain::starts::sum(&mut limbs, first, second);
+    let mut limbs = [0u32; 42];
+    let n = chain::starts::sum(
+        &mut limbs,
+        p.significand,
+        depth - p.depth,
+        q.significand,
+        depth - q.depth,
+    );
     let m = times(&mut limbs, n, k);
     finish(&mut limbs, m, depth, &quantities[..], d)
 }

@@ -1,7 +1,7 @@
 //! Records and cases as CSV: a header line, then a line for each; comma or semicolon, as the header has it.
 
 use crate::arguments::{Given, FIELDS};
-use crate::describe::FIGURE_NAMES;
+use crate::describe::{counted, FIGURE_NAMES};
 use crate::numbers;
 use csorvelin_binding::{Case, Figures, Record};
 use csorvelin_model::archive::MOST_RECORDS;
@@ -110,39 +110,71 @@ impl<R: BufRead> Rows<R> {
         }
     }
 
-    fn row(&self, line: &str) -> Result<Row, String> {
-        let cells = cells(line, self.separator)?;
+    /// The row of a line; none of one that has separators alone.
+    fn row(&self, line: Vec<u8>) -> Result<Option<Row>, Fault> {
+        let cells = text(line).and_then(|line| cells(&line, self.separator)).map_err(Fault::Line)?;
+        if cells.iter().all(String::is_empty) {
+            return Ok(None);
+        }
         if cells.len() != self.header.len() {
-            return Err(format!("the line has {} cells, the header {}", cells.len(), self.header.len()));
+            let (cells, columns) = (counted(cells.len() as u64, "cell"), self.header.len());
+            return Err(Fault::Line(format!("the line has {cells}, the header {columns}")));
         }
         let filled = |name: &str| {
             let place = self.header.iter().position(|column| column == name)?;
             Some(cells[place].clone()).filter(|cell| !cell.is_empty())
         };
+        if filled("").is_some() {
+            return Err(Fault::Line("a cell stands under a column without a name".to_string()));
+        }
+        decimal_points(&cells)?;
         let fields = FIELDS.iter().filter_map(|name| Some((name.to_string(), filled(name)?)));
-        Ok(Row {
-            given: Given::of_fields(&fields.collect::<Vec<_>>())?,
+        Ok(Some(Row {
+            given: Given::of_fields(&fields.collect::<Vec<_>>()).map_err(Fault::Line)?,
             figures: FIGURE_NAMES.map(filled),
             exact: QUANTITIES.map(|name| filled(&format!("{name}_exact"))),
-        })
+        }))
     }
+}
+
+/// Where one number has a decimal comma, points in the others may be thousands separators: 1.250 would be taken for 1.25.
+fn decimal_points(cells: &[String]) -> Result<(), Fault> {
+    let digits_and_marks =
+        |cell: &&String| cell.contains(',') && cell.bytes().all(|byte| b"0123456789.,".contains(&byte));
+    match cells.iter().find(digits_and_marks) {
+        Some(cell) => {
+            Err(Fault::File(format!("{cell} has a decimal comma: write points, and no thousands separators")))
+        }
+        None => Ok(()),
+    }
+}
+
+/// What is wrong: with one line, or with the file from there on and so with all of it.
+pub enum Fault {
+    Line(String),
+    File(String),
 }
 
 impl<R: BufRead> Iterator for Rows<R> {
-    type Item = (u64, io::Result<Result<Row, String>>);
+    type Item = (u64, Result<Row, Fault>);
 
     fn next(&mut self) -> Option<Self::Item> {
-        let line = self.lines.next()?;
-        Some((self.lines.number, line.map(|line| self.row(&text(line)?))))
+        loop {
+            let line = self.lines.next()?.map_err(|error| Fault::File(error.to_string()));
+            if let Some(row) = line.and_then(|line| self.row(line)).transpose() {
+                return Some((self.lines.number, row));
+            }
+        }
     }
 }
 
-/// The separator and the columns of a header.
+/// The separator and the columns of a header. A column may have no name, as those that a spreadsheet leaves behind the others.
 fn header_of(line: &str) -> Result<(char, Vec<String>), String> {
     let line = line.strip_prefix('\u{feff}').unwrap_or(line);
     let separator = if line.contains(';') { ';' } else { ',' };
     let header = cells(line, separator)?.iter().map(|name| column(name)).collect::<Result<Vec<_>, _>>()?;
-    match header.iter().enumerate().find(|(index, name)| header[..*index].contains(name)) {
+    let mut named = header.iter().enumerate().filter(|(_, name)| !name.is_empty());
+    match named.find(|(index, name)| header[..*index].contains(name)) {
         Some((_, twice)) => Err(format!("column {twice} stands twice")),
         None => Ok((separator, header)),
     }
@@ -150,7 +182,7 @@ fn header_of(line: &str) -> Result<(char, Vec<String>), String> {
 
 /// The name of a column, in any letter case.
 fn column(name: &str) -> Result<String, String> {
-    let column = columns().into_iter().find(|column| column.eq_ignore_ascii_case(name));
+    let column = columns().into_iter().chain([String::new()]).find(|column| column.eq_ignore_ascii_case(name));
     column.ok_or(format!("there is no column '{name}': the columns are {}", columns().join(", ")))
 }
 
@@ -168,14 +200,13 @@ impl<R: BufRead> Iterator for Lines<R> {
             let mut line = vec![];
             self.number += 1;
             if self.number > MOST_LINES {
-                return Some(Err(io::Error::other(format!("over {MOST_LINES} lines; nothing from here on is read"))));
+                return Some(Err(io::Error::other(format!("over {MOST_LINES} lines"))));
             }
             match self.from.by_ref().take(MOST_LINE).read_until(b'\n', &mut line) {
                 Err(error) => return Some(Err(error)),
                 Ok(0) => return None,
                 Ok(length) if length as u64 == MOST_LINE && !line.ends_with(b"\n") => {
-                    let message = format!("a line of over {MOST_LINE} bytes is no CSV; nothing from here on is read");
-                    return Some(Err(io::Error::other(message)));
+                    return Some(Err(io::Error::other(format!("a line of over {MOST_LINE} bytes is no CSV"))));
                 }
                 Ok(_) if line.trim_ascii().is_empty() => continue,
                 Ok(_) => return Some(Ok(line)),
@@ -233,7 +264,11 @@ mod tests {
 
     fn rows(text: &str) -> Vec<(u64, Result<Vec<u8>, String>)> {
         let rows = Rows::new(text.as_bytes()).unwrap();
-        rows.map(|(line, row)| (line, row.unwrap().map(|row| row.given.bytes))).collect()
+        let words = |fault| match fault {
+            Fault::Line(words) => words,
+            Fault::File(words) => format!("file: {words}"),
+        };
+        rows.map(|(line, row)| (line, row.map(|row| row.given.bytes).map_err(words))).collect()
     }
 
     #[test]
@@ -259,6 +294,8 @@ mod tests {
         assert_eq!(rows(&plain.replace(',', ";")), expected);
         assert_eq!(rows(&format!("\u{feff}{}", plain.replace('\n', "\r\n"))), expected);
         assert_eq!(rows("DOSSIER,Kind,c,\"a\",Row\n7,4,1,1e2,1\n\"8\", 4 ,1,5,1"), expected);
+        // As a spreadsheet leaves it: columns without a name, lines of separators.
+        assert_eq!(rows("kind;row;dossier;a;c;;\n4;1;7;100;1;;\n4;1;8;5;1;;\n;;;;;;\n"), expected);
     }
 
     #[test]
@@ -266,7 +303,11 @@ mod tests {
         let lines = rows("kind,a\n\n4,x\n4\n4,1,2\n4,\"1\n");
         let numbers: Vec<u64> = lines.iter().map(|(line, _)| *line).collect();
         assert_eq!(numbers, [3, 4, 5, 6]);
-        assert!(lines.iter().all(|(_, row)| row.is_err()));
+        assert!(lines.iter().all(|(_, row)| row.as_ref().is_err_and(|words| !words.starts_with("file"))));
+        assert!(rows("kind,\n4,5\n")[0].1.as_ref().is_err_and(|words| words.contains("without a name")));
+        // A decimal comma makes every point doubtful.
+        let lines = rows("kind;a\n4;1.250\n4;950,5\n");
+        assert!(lines[0].1.is_ok() && lines[1].1.as_ref().is_err_and(|words| words.starts_with("file: 950,5 ")));
         for text in ["", "kind,colour\n", "kind,KIND\n", "kind,\"a\n"] {
             assert!(Rows::new(text.as_bytes()).is_err(), "{text}");
         }

@@ -159,6 +159,11 @@ pub fn figures_json(figures: Figures) -> Json {
     Json::Object(entries.map(|(name, figure)| (name.to_string(), Json::from(figure))).collect())
 }
 
+/// So many of something: one record, two records.
+pub fn counted(number: u64, what: &str) -> String {
+    format!("{number} {what}{}", if number == 1 { "" } else { "s" })
+}
+
 pub fn hex(bytes: &[u8]) -> String {
     bytes.iter().map(|byte| format!("{byte:02x}")).collect()
 }

@@ -148,6 +148,8 @@ pub fn json(sheet: &Sheet) -> Json {
             ("terms", Json::list(chains.map(|chain| Json::list(chain.iter().map(factor_json))))),
             ("kilograms", Json::from(sheet.kilograms(compartment).to_string())),
             ("micrograms", Json::from(sheet.micrograms(compartment).to_string())),
+            ("kilograms_decimal", Json::from(numbers::decimal(&sheet.kilograms(compartment)))),
+            ("micrograms_decimal", Json::from(numbers::decimal(&sheet.micrograms(compartment)))),
             ("figure", Json::from(figures[compartment])),
         ])
     });

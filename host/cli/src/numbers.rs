@@ -12,36 +12,63 @@ const MOST_PLACES: u32 = 80;
 const BESIDE_PLACES: u32 = 20;
 const BESIDE_DIGITS: u32 = 17;
 
+/// So many characters of what was typed stand in a message.
+const MOST_QUOTED: usize = 60;
+
 /// What a pattern is called that has its sign bit set or is no finite number.
 const NO_QUANTITY: &str = "not a quantity";
 
+/// A text that was typed, for a message: not more of it than a line has room for.
+fn quoted(text: &str) -> String {
+    match text.char_indices().nth(MOST_QUOTED) {
+        Some((end, _)) => format!("'{}…'", &text[..end]),
+        None => format!("'{text}'"),
+    }
+}
+
 /// A whole number, decimal or with 0x, up to `most`.
 pub fn whole(text: &str, most: u64) -> Result<u64, String> {
-    let digits_only = |digits: &str, radix| !digits.is_empty() && digits.chars().all(|digit| digit.is_digit(radix));
     let value = match text.strip_prefix("0x") {
         Some(digits) if digits_only(digits, 16) => u64::from_str_radix(digits, 16).ok(),
         None if digits_only(text, 10) => text.parse().ok(),
-        _ => return Err(format!("'{text}' is not a whole number")),
+        _ => return Err(format!("{} is not a whole number", quoted(text))),
     };
-    value.filter(|&value| value <= most).ok_or(format!("{text} does not fit: at most {most}"))
+    value.filter(|&value| value <= most).ok_or(format!("{} does not fit: at most {most}", quoted(text)))
 }
 
-/// The pattern of a quantity: the binary64 number nearest to a decimal, or the pattern itself after 0x.
+fn digits_only(digits: &str, radix: u32) -> bool {
+    !digits.is_empty() && digits.chars().all(|digit| digit.is_digit(radix))
+}
+
+/// The pattern of a quantity: the binary64 number nearest to a decimal, or the pattern itself, all 16 digits, after 0x.
 pub fn quantity(text: &str) -> Result<u64, String> {
-    if text.starts_with("0x") {
-        return whole(text, u64::MAX).map_err(|_| format!("'{text}' is not a pattern of at most 16 hex digits"));
+    if let Some(digits) = text.strip_prefix("0x") {
+        let whole = digits.len() == 16 && digits_only(digits, 16);
+        let pattern = whole.then(|| u64::from_str_radix(digits, 16).ok()).flatten();
+        return pattern.ok_or(format!("{} is not a pattern: 0x and 16 hexadecimal digits", quoted(text)));
     }
-    let Some(exact) = unsigned_decimal(text) else {
-        return Err(format!("'{text}' is neither a decimal number nor a pattern (0x and hex digits)"));
+    let Some(is_zero) = decimal_is_zero(text) else {
+        let comma = if text.contains(',') { "; write a decimal point, and no thousands separators" } else { "" };
+        return Err(format!("{} is neither a decimal number nor a pattern{comma}", quoted(text)));
     };
-    let value: f64 = text.parse().map_err(|_| format!("'{text}' is not a number"))?;
+    let value: f64 = text.parse().map_err(|_| format!("{} is not a number", quoted(text)))?;
     if value.is_infinite() {
-        return Err(format!("{text} is beyond binary64"));
+        return Err(format!("{} is beyond binary64", quoted(text)));
     }
-    if value == 0.0 && !exact.is_zero() {
-        return Err(format!("{text} is nearer to 0 than to any other binary64 number; give 0 or a pattern"));
+    if value == 0.0 && !is_zero {
+        return Err(format!("{} is nearer to 0 than to any other binary64 number; give 0 or a pattern", quoted(text)));
     }
     Ok(value.to_bits())
+}
+
+/// Whether a decimal has no digit but 0; none where the text is no decimal: digits, perhaps a sign, a point, an exponent.
+fn decimal_is_zero(text: &str) -> Option<bool> {
+    let text = text.strip_prefix('-').unwrap_or(text);
+    let (digits, exponent) = text.split_once(['e', 'E']).unwrap_or((text, "0"));
+    let (whole, part) = digits.split_once('.').unwrap_or((digits, ""));
+    let digits = [whole, part].concat();
+    let exponent = exponent.strip_prefix(['+', '-']).unwrap_or(exponent);
+    (digits_only(&digits, 10) && digits_only(exponent, 10)).then(|| digits.bytes().all(|digit| digit == b'0'))
 }
 
 /// The exact value of a decimal without its sign.
@@ -157,12 +184,22 @@ mod tests {
         assert_eq!(quantity("0.71"), Ok(0x3fe6b851eb851eb8));
         assert_eq!(quantity("1e-3"), Ok(0.001f64.to_bits()));
         assert_eq!(quantity("-0"), Ok(1 << 63));
-        assert_eq!(quantity("0x1"), Ok(1));
+        assert_eq!(quantity("0x0000000000000001"), Ok(1));
         assert_eq!(quantity("4.9e-324"), Ok(1));
+        assert_eq!(quantity("-1.5E+1"), Ok((-15f64).to_bits()));
+        assert_eq!(quantity(&format!("0.{}1e100001", "0".repeat(100_000))), Ok(1f64.to_bits()));
         assert_eq!(quantity("0e-400"), Ok(0));
-        for text in ["1e400", "1e-400", "nan", "inf", "", "0x", "0x10000000000000000", "1,5", "1e99999999999"] {
-            assert!(quantity(text).is_err(), "{text}");
+        for text in ["nan", "inf", "", ".", "e3", "1e", "+1", "1 000", "1.2.3", "0x", "0x64", "0x+000000000000001"] {
+            assert!(quantity(text).unwrap_err().contains(" n"), "{text}");
         }
+        for text in ["1e400", "1e99999999999999999999", &"9".repeat(400)] {
+            assert!(quantity(text).unwrap_err().ends_with("is beyond binary64"), "{text}");
+        }
+        for text in ["1e-400", "1e-99999999999999999999"] {
+            assert!(quantity(text).unwrap_err().contains("nearer to 0"), "{text}");
+        }
+        assert!(quantity("1.250,5").unwrap_err().ends_with("write a decimal point, and no thousands separators"));
+        assert!(quantity(&"x".repeat(100_000)).unwrap_err().len() < 200);
     }
 
     #[test]

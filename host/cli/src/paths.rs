@@ -3,7 +3,8 @@
 use std::ffi::OsStr;
 use std::path::Path;
 
-/// A name, or a text that quotes one, for a message: bytes that are no text, and characters that would move the cursor, are shown in their place.
+/// A name, or a text that quotes one, for a message: bytes that are no text, and characters that would move the cursor, are
+/// shown in their place.
 pub fn shown(path: impl AsRef<OsStr>) -> String {
     let mut text = String::new();
     for character in path.as_ref().to_string_lossy().chars() {

@@ -10,6 +10,7 @@ const STEP: Duration = Duration::from_millis(500);
 const STRIDE: u64 = 64;
 
 pub struct Progress {
+    done: &'static str,
     what: &'static str,
     total: u64,
     next: Instant,
@@ -18,15 +19,15 @@ pub struct Progress {
 }
 
 impl Progress {
-    pub fn new(what: &'static str, total: u64) -> Progress {
+    pub fn new(done: &'static str, what: &'static str, total: u64) -> Progress {
         let terminal = io::stderr().is_terminal();
-        Progress { what, total, next: Instant::now() + STEP, terminal, shown: false }
+        Progress { done, what, total, next: Instant::now() + STEP, terminal, shown: false }
     }
 
     pub fn at(&mut self, number: u64) {
         if self.terminal && number.is_multiple_of(STRIDE) && Instant::now() >= self.next {
-            let (what, total) = (self.what, self.total);
-            let _ = write!(io::stderr(), "\r{what} {number} of {total} records");
+            let Progress { done, what, total, .. } = self;
+            let _ = write!(io::stderr(), "\r{done} {number} of {total} {what}");
             self.next = Instant::now() + STEP;
             self.shown = true;
         }

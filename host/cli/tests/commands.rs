@@ -251,7 +251,7 @@ fn a_case_file_is_written_and_read_back() {
     let ran = place.run(&[&["case", "--out", "p1.case"], &P1[..]].concat());
     let hex = "04010100000000000700000000000000\
                00000000000059400000000000000000000000000000f03f000000000000000000000000000000000000000000000000";
-    assert!(ran.ends(0).out.ends_with(&format!("bytes    {hex}\n")), "{}", ran.out);
+    assert!(ran.ends(0).out.ends_with(&format!("bytes    {hex}\nwritten  p1.case\n")), "{}", ran.out);
     assert_eq!(place.read("p1.case").len(), 64);
     assert_eq!(place.names(), ["p1.case"]);
     let by_file = place.run(&["work-out", "--case", "p1.case"]);

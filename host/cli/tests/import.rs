@@ -39,7 +39,7 @@ fn files_folders_and_csv_are_filed_in_the_order_given() {
     place.write("folder/.hidden", b"no case");
     let paths = ["z.case", "folder", "table.csv", "more.CSV", "-", "a"];
     let ran = place.run_on(csv(&cases[22..34]).as_bytes(), &words(&["import", "archive"], &paths));
-    assert_eq!(ran.ends(0).out, "35 read, 0 refused, 35 filed in archive as records 1 to 35\n");
+    assert_eq!(ran.ends(0).out, "35 offered, 0 refused, 35 filed in archive as records 1 to 35\n");
     assert_eq!(ran.err, "");
     assert!(place.read("archive") == archive_with(&[&[held], &cases[..]].concat()));
 }
@@ -72,12 +72,12 @@ fn what_is_no_case_in_a_folder_is_refused_and_not_passed_over() {
     let before = state(&place, "archive");
     let ran = place.run(&["import", "archive", "folder"]);
     refused(&ran);
-    let none = "6 read, 5 refused, none filed; archive is as it was; --keep-going would file 1\n";
+    let none = "6 offered, 5 refused, none filed; archive is as it was; --keep-going would file 1\n";
     assert_eq!(ran.out, none);
     assert_eq!(state(&place, "archive"), before);
     let ran = place.run(&["import", "archive", "folder", "--keep-going"]);
     refused(&ran);
-    assert_eq!(ran.out, "6 read, 5 refused, 1 filed in archive as record 0\n");
+    assert_eq!(ran.out, "6 offered, 5 refused, 1 filed in archive as record 0\n");
     assert_eq!(place.read("archive"), archive_with(&[p1()]));
 }
 
@@ -144,7 +144,7 @@ fn every_line_is_judged_as_if_it_were_filed_after_those_before() {
             for (said, (line, number)) in ran.err.lines().zip(&batch.refused) {
                 assert!(said.starts_with(&format!("cases.csv:{line}: refused {number}: ")), "{said}");
             }
-            let read = format!("{} read, {} refused, ", batch.read, batch.refused.len());
+            let read = format!("{} offered, {} refused, ", batch.read, batch.refused.len());
             assert_eq!(ran.out, format!("{read}{filed}\n"));
         };
         let (first, count) = ((batch.old.len() - 16) / 96, batch.filed());
@@ -175,7 +175,7 @@ fn the_answer_as_json() {
         let answer = Json::read(&ran.ends(65).out);
         assert_eq!(ran.err, "");
         assert_eq!((answer.text(&["archive"]), answer.truth(&["dry_run"])), ("archive", dry_run));
-        assert_eq!((answer.text(&["read"]), answer.text(&["filed"])), ("300", filed.to_string().as_str()));
+        assert_eq!((answer.text(&["offered"]), answer.text(&["filed"])), ("300", filed.to_string().as_str()));
         assert_eq!(answer.has("first"), filed > 0);
         let refused: Vec<(u64, u32)> = answer.list(&["refused"]).iter().map(line_and_number).collect();
         assert_eq!(refused, batch.refused);
@@ -213,10 +213,10 @@ fn all_good_lines_end_with_0() {
     place.write("cases.csv", csv(&cases).as_bytes());
     let before = state(&place, "archive");
     let ran = place.run(&["import", "archive", "cases.csv", "--dry-run"]);
-    assert_eq!(ran.ends(0).out, "70 read, 0 refused, 70 would be filed in archive as records 0 to 69\n");
+    assert_eq!(ran.ends(0).out, "70 offered, 0 refused, 70 would be filed in archive as records 0 to 69\n");
     assert_eq!(state(&place, "archive"), before);
     let ran = place.run(&["import", "archive", "cases.csv", "--keep-going"]);
-    assert_eq!(ran.ends(0).out, "70 read, 0 refused, 70 filed in archive as records 0 to 69\n");
+    assert_eq!(ran.ends(0).out, "70 offered, 0 refused, 70 filed in archive as records 0 to 69\n");
     assert!(place.read("archive") == archive_with(&cases));
 }
 
@@ -239,7 +239,7 @@ fn the_same_filing_twice_names_the_first() {
     let allowed = "allowed another kind, row, route, user or dossier: these five make a filing";
     let said: String = lines.iter().map(|(line, held)| format!("{line}: {words} {held}, {allowed}\n")).collect();
     assert_eq!(ran.ends(65).err, said);
-    let none = "6 read, 5 refused, none filed; archive is as it was; --keep-going would file 1\n";
+    let none = "6 offered, 5 refused, none filed; archive is as it was; --keep-going would file 1\n";
     assert_eq!(ran.out, none);
 }
 
@@ -270,8 +270,8 @@ fn a_quantity_left_blank_is_refused_in_each_row_unless_blanks_count_as_zero() {
     assert!(n > 90);
     for options in [&[][..], &["--keep-going"]] {
         let ran = place.run(&words(&["import", "archive", "cases.csv"], options));
-        assert_eq!(ran.ends(65).err, said("", " (--blank-as-zero counts it as 0)"));
-        assert_eq!(ran.out, format!("{n} read, {n} refused, none filed; archive is as it was\n"));
+        assert_eq!(ran.ends(65).err, said("", "; --blank-as-zero counts it as 0"));
+        assert_eq!(ran.out, format!("{n} offered, {n} refused, none filed; archive is as it was\n"));
         assert_eq!(place.read("archive"), archive::trailer(0));
     }
     let ran = place.run(&["import", "archive", "cases.csv", "--blank-as-zero"]);
@@ -317,11 +317,11 @@ fn a_full_archive_takes_nothing() {
     let full = "refused 23: there is no room for it: archive: found 1000000 records, allowed at most 1000000 records\n";
     let ran = place.run(&["import", "full", "cases.csv", "--keep-going"]);
     assert_eq!(ran.ends(65).err, format!("cases.csv:2: {full}cases.csv:3: {full}"));
-    assert_eq!(ran.out, "2 read, 2 refused, none filed; full is as it was\n");
+    assert_eq!(ran.out, "2 offered, 2 refused, none filed; full is as it was\n");
     let ran = place.run(&["import", "nearly", "cases.csv"]);
     assert_eq!(ran.ends(65).err, format!("cases.csv:3: {full}"));
     let ran = place.run(&["import", "nearly", "cases.csv", "--keep-going", "--dry-run"]);
-    assert_eq!(ran.ends(65).out, "2 read, 1 refused, 1 would be filed in nearly as record 999999\n");
+    assert_eq!(ran.ends(65).out, "2 offered, 1 refused, 1 would be filed in nearly as record 999999\n");
     for (name, records) in [("full", 1_000_000), ("nearly", 999_999)] {
         assert_eq!(fs::metadata(place.path(name)).unwrap().len(), 96 * records + 16);
     }
@@ -371,7 +371,7 @@ fn wrong_command_lines() {
     let lines: Vec<&str> = ran.ends(65).err.lines().collect();
     assert!(lines.len() == 2 && lines[0].starts_with("cases.csv: cannot read it: "), "{}", ran.err);
     assert!(lines[1].starts_with("folder: cannot read it: "), "{}", ran.err);
-    assert_eq!(ran.out, "2 read, 2 refused, none filed; archive is as it was\n");
+    assert_eq!(ran.out, "2 offered, 2 refused, none filed; archive is as it was\n");
     assert_eq!(state(&place, "archive"), before);
     assert_eq!(place.names(), ["archive"]);
 }
@@ -385,7 +385,7 @@ fn nothing_to_be_filed_is_no_failure() {
     let before = state(&place, "archive");
     for path in ["folder", "header.csv"] {
         let ran = place.run(&["import", "archive", path]);
-        assert_eq!(ran.ends(0).out, "0 read, 0 refused, none filed; archive is as it was\n");
+        assert_eq!(ran.ends(0).out, "0 offered, 0 refused, none filed; archive is as it was\n");
     }
     assert_eq!(state(&place, "archive"), before);
 }

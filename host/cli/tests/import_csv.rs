@@ -69,12 +69,11 @@ fn columns_may_be_left_out() {
 fn a_header_that_is_wrong_is_named_with_its_line() {
     let place = Place::new("csv_headers");
     place.archive("archive");
-    let headers: [(&[u8], u32, &str); 12] = [
+    let headers: [(&[u8], u32, &str); 11] = [
         (b"", 1, "there is no header line"),
         (b"\n\n  \n", 1, "there is no header line"),
         (b"kind,colour\n4,1\n", 1, "there is no column 'colour': the columns are record, kind, row,"),
         (b"\n\r\nkind,colour\n4,1\n", 3, "there is no column 'colour'"),
-        (b"kind,,row\n", 1, "there is no column ''"),
         (b"kind,row,Kind\n4,1,4\n", 1, "column kind stands twice"),
         (b"kind\trow\n4\t1\n", 1, "there is no column 'kind\\trow'"),
         (b"kind,row\r4,1\r", 1, "there is no column 'row\\r4'"),
@@ -88,7 +87,7 @@ fn a_header_that_is_wrong_is_named_with_its_line() {
         let ran = place.run(&["import", "archive", "cases.csv", "--keep-going"]);
         assert!(ran.ends(65).err.starts_with(&format!("cases.csv:{line}: {said}")), "{}", ran.err);
         assert_eq!(ran.err.lines().count(), 1, "{}", ran.err);
-        assert_eq!(ran.out, "1 read, 1 refused, none filed; archive is as it was\n");
+        assert_eq!(ran.out, "1 offered, 1 refused, none filed; archive is as it was\n");
     }
     let ran = place.run(&["import", "archive", "-"]);
     assert_eq!(ran.ends(65).err, "standard input:1: there is no header line\n");
@@ -102,23 +101,26 @@ fn a_line_that_is_wrong_is_named_and_no_other() {
     let wrong: [(&[u8], &str); 26] = [
         (b"4,1", "the line has 2 cells, the header 6"),
         (b"4,1,7,100,0,1,", "the line has 7 cells, the header 6"),
-        (b"4;1;7;100;0;1", "the line has 1 cells, the header 6"),
-        // A decimal comma is no point, in quotes or by its separator.
+        (b"4;1;7;100;0;1", "the line has 1 cell, the header 6"),
+        // A decimal comma is no point.
         (b"4,1,7,0,5,0,1", "the line has 7 cells, the header 6"),
-        (b"4,1,7,\"0,5\",0,1", "field a: '0,5' is neither a decimal number nor a pattern"),
+        (b"4,1,7,\"0,5 t\",0,1", "field a: '0,5 t' is neither a decimal number nor a pattern; write a decimal point,"),
         (b"4,1,7,1.000.000,0,1", "field a: '1.000.000' is neither"),
         (b"4,1,7,1 000,0,1", "field a: '1 000' is neither"),
         (b"4,1,7,\" 1\",0,1", "field a: ' 1' is neither"),
         (b"4,1,7,much,0,1", "field a: 'much' is neither"),
         (b"4,1,7,nan,0,1", "field a: 'nan' is neither"),
         (b"4,1,7,inf,0,1", "field a: 'inf' is neither"),
-        (b"4,1,7,1e400,0,1", "field a: 1e400 is beyond binary64"),
-        (b"4,1,7,1e-400,0,1", "field a: 1e-400 is nearer to 0 than to any other binary64 number"),
-        (b"4,1,7,0x10000000000000000,0,1", "field a: '0x10000000000000000' is not a pattern of at most 16 hex digits"),
+        (b"4,1,7,1e400,0,1", "field a: '1e400' is beyond binary64"),
+        (b"4,1,7,1e-400,0,1", "field a: '1e-400' is nearer to 0 than to any other binary64 number"),
+        (
+            b"4,1,7,0x10000000000000000,0,1",
+            "field a: '0x10000000000000000' is not a pattern: 0x and 16 hexadecimal digits",
+        ),
         (b"4.0,1,7,1,0,1", "field kind: '4.0' is not a whole number"),
         (b"-4,1,7,1,0,1", "field kind: '-4' is not a whole number"),
-        (b"256,1,7,1,0,1", "field kind: 256 does not fit: at most 255"),
-        (b"4,1,18446744073709551616,1,0,1", "field dossier: 18446744073709551616 does not fit: at most"),
+        (b"256,1,7,1,0,1", "field kind: '256' does not fit: at most 255"),
+        (b"4,1,18446744073709551616,1,0,1", "field dossier: '18446744073709551616' does not fit: at most"),
         (b"4,1,1e3,1,0,1", "field dossier: '1e3' is not a whole number"),
         (b"4,1,7,\"1,0,1", "a quote is not closed in its line"),
         (b"4,1,7,\"1\"0,0,1", "something stands behind a cell in quotes"),
@@ -148,14 +150,14 @@ fn a_line_that_is_wrong_is_named_and_no_other() {
         }
         ran.out
     };
-    let none = "53 read, 26 refused, none filed; archive is as it was; --keep-going would file 27\n";
+    let none = "53 offered, 26 refused, none filed; archive is as it was; --keep-going would file 27\n";
     assert_eq!(said(&[]), none);
     assert_eq!(place.read("archive"), archive::trailer(0));
-    assert_eq!(said(&["--keep-going"]), "53 read, 26 refused, 27 filed in archive as records 0 to 26\n");
+    assert_eq!(said(&["--keep-going"]), "53 offered, 26 refused, 27 filed in archive as records 0 to 26\n");
     assert_eq!(place.read("archive"), archive_with(&good));
 }
 
-/// What no line feed ends is not read on for ever, and it is said that nothing behind it is read.
+/// What no line feed ends is not read on for ever; what stands behind it is not known, so nothing of the file is taken.
 #[test]
 fn a_line_that_is_too_long_ends_the_reading() {
     let place = Place::new("csv_long");
@@ -164,13 +166,29 @@ fn a_line_that_is_too_long_ends_the_reading() {
     place.write("cases.csv", text.as_bytes());
     let ran = place.run(&["import", "archive", "cases.csv", "--keep-going"]);
     assert!(ran.ends(65).err.starts_with("cases.csv:3: a line of over 65536 bytes is no CSV; "), "{}", ran.err);
-    assert!(ran.err.ends_with("; nothing from here on is read\n") && ran.err.lines().count() == 1, "{}", ran.err);
-    assert_eq!(place.read("archive"), archive_with(&[p1()]));
+    assert!(ran.err.ends_with("; nothing of this file is taken\n") && ran.err.lines().count() == 1, "{}", ran.err);
+    assert_eq!(place.read("archive"), archive_with(&[]));
     // The longest that is read.
     let zeros = "0".repeat(65_535 - "4,1,1,0,0,8,1,0,1,,,".len());
     place.write("cases.csv", format!("{}4,1,1,0,0,8,{zeros}1,0,1,,,\n", csv(&[])).as_bytes());
     place.run(&["import", "archive", "cases.csv"]).ends(0);
-    assert_eq!(place.read("archive").len(), 16 + 2 * 96);
+    assert_eq!(place.read("archive").len(), 16 + 96);
+}
+
+/// Where one number has a decimal comma a point may be a thousands separator, and 1.250 would be filed as 1.25.
+#[test]
+fn a_decimal_comma_refuses_the_whole_file() {
+    let place = Place::new("csv_comma");
+    place.archive("archive");
+    let before = place.read("archive");
+    place.write("cases.csv", b"kind;row;dossier;a;b;c\n4;1;21;1.250;0;1\n4;1;22;12.500;0;1\n4;1;23;950,5;0;1\n");
+    place.write("other.csv", b"kind,row,dossier,a,b,c\n4,1,24,5,0,1\n");
+    let ran = place.run(&["import", "archive", "cases.csv", "--keep-going"]);
+    let said = "cases.csv:4: 950,5 has a decimal comma: write points, and no thousands separators; nothing of this file is taken\n";
+    assert_eq!((ran.ends(65).err.as_str(), place.read("archive")), (said, before));
+    // Another file is judged by itself.
+    let ran = place.run(&["import", "archive", "cases.csv", "other.csv", "--keep-going"]);
+    assert_eq!(ran.ends(65).out, "4 offered, 1 refused, 1 filed in archive as record 0\n");
 }
 
 #[test]
@@ -199,7 +217,7 @@ fn figures_and_exact_values_must_be_the_case_s() {
     let ran = place.run(&["import", "archive", "cases.csv", "--keep-going"]);
     let said = (2..).zip(lines).filter_map(|(line, (_, why))| Some(format!("cases.csv:{line}: {}\n", why?)));
     assert_eq!(ran.ends(65).err, said.collect::<String>().replace("SUM", sum));
-    assert_eq!(ran.out, "12 read, 9 refused, 3 filed in archive as records 0 to 2\n");
+    assert_eq!(ran.out, "12 offered, 9 refused, 3 filed in archive as records 0 to 2\n");
     let tenth = |dossier| Case { dossier, patterns: [100., 0., 0.1, 0., 0., 0.].map(f64::to_bits), ..p1() };
     assert_eq!(place.read("archive"), archive_with(&[tenth(7), tenth(8), tenth(9)]));
 }

@@ -77,7 +77,7 @@ fn a_file_name_may_be_any_bytes() {
         let path = place.directory.join(name);
         assert_eq!(run(&["new", "--"], &[]).lines().count(), 1);
         assert!(run(&[&["file"], &P1[..], &["--"]].concat(), &[]).starts_with("filed in "));
-        assert!(run(&["import", "--"], &["cases.csv"]).starts_with("1 read, 0 refused, 1 filed in "));
+        assert!(run(&["import", "--"], &["cases.csv"]).starts_with("1 offered, 0 refused, 1 filed in "));
         assert_eq!(fs::read(&path).unwrap(), archive_with(&[p1(), Case { dossier: 8, ..p1() }]));
         assert_eq!(run(&["list", "--"], &[]).lines().count(), 3);
         assert_eq!(run(&["list", "--csv", "--"], &[]).lines().count(), 3);

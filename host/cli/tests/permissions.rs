@@ -57,6 +57,9 @@ fn read(run: impl Fn(&[&str]) -> Ran) {
     }
 }
 
+/// A trial of an import: it promises nothing that the import would not keep.
+const TRIAL: [&str; 4] = ["import", "archive", "case", "--dry-run"];
+
 #[test]
 fn a_sealed_archive_is_not_written_to() {
     let place = Place::new("sealed");
@@ -64,6 +67,7 @@ fn a_sealed_archive_is_not_written_to() {
     for mode in [0o444, 0o440, 0o400, 0o555] {
         place.set_mode("archive", mode);
         refused(&place, |words| place.run(words), 77, "archive is sealed: ");
+        place.run(&TRIAL).ends(77);
         read(|words| place.run(words));
     }
     // By a link too, and opened again by the one who sealed it.
@@ -87,9 +91,10 @@ fn an_archive_that_its_caller_may_not_write_is_not_written_to() {
         chown(place.path("archive"), Some(0), Some(group)).unwrap();
         place.set_mode("archive", mode);
         refused(place, |words| shared.run(words), 77, "archive is sealed: you have no write permission");
+        shared.run(&TRIAL).ends(77);
         read(|words| shared.run(words));
         // Root may.
-        place.run(&["import", "archive", "case", "--dry-run"]).ends(0);
+        place.run(&TRIAL).ends(0);
     }
     // One that may not even be read.
     for mode in [0o600, 0o622] {

@@ -71,6 +71,18 @@ fn what_is_no_regular_file_is_no_archive() {
     assert_eq!(place.names(), names);
 }
 
+/// Nor is standard input waited for, which here says nothing.
+#[test]
+fn what_is_no_archive_is_refused_before_input_is_read() {
+    let (shared, _socket) = special("special_and_input");
+    for words in [["import", "fifo", "-"], ["import", "directory", "-"]] {
+        let mut command = shared.place.command(&words);
+        let mut child = command.stdin(Stdio::piped()).stdout(Stdio::piped()).stderr(Stdio::piped()).spawn().unwrap();
+        let _silent = child.stdin.take();
+        ended(child).ends(66);
+    }
+}
+
 #[test]
 fn what_is_no_regular_file_is_not_written_over() {
     let (shared, _socket) = special("special_outputs");
@@ -92,14 +104,14 @@ fn what_is_no_regular_file_is_not_imported() {
     for name in ["fifo", "link", "socket", "/dev/zero", "/dev/null"] {
         let ran = run(place, &["import", "archive", name, "case"]);
         assert!(ran.ends(65).err.starts_with(&format!("{name}: cannot read it: it is a ")), "{}", ran.err);
-        assert!(ran.out.starts_with("2 read, 1 refused, none filed"), "{}", ran.out);
+        assert!(ran.out.starts_with("2 offered, 1 refused, none filed"), "{}", ran.out);
     }
     fs::create_dir(place.path("folder")).unwrap();
     for (name, to) in [("fifo", "folder/a"), ("case", "folder/b"), ("socket", "folder/c")] {
         fs::rename(place.path(name), place.path(to)).unwrap();
     }
     let ran = run(place, &["import", "archive", "folder", "--keep-going"]);
-    assert!(ran.ends(65).out.starts_with("3 read, 2 refused, 1 filed in archive as record 0"), "{}", ran.out);
+    assert!(ran.ends(65).out.starts_with("3 offered, 2 refused, 1 filed in archive as record 0"), "{}", ran.out);
 }
 
 /// Runs a command on zeros without end, with a limit on its memory in kilobytes.

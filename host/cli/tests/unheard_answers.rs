@@ -54,9 +54,9 @@ fn what_was_done_is_said_on_standard_error() {
             assert_eq!(place.read("shown"), place.read("archive")[96..160]);
             place.run(&filing("archive", "dossier=7")).ends(22);
             place.write("cases.csv", b"kind,row,dossier,a,b,c\n4,1,9,5,0,1\n4,1,10,5,0,1\n");
-            done(&["import", "archive", "cases.csv"], "2 read, 0 refused, 2 filed in archive as records 2 to 3");
+            done(&["import", "archive", "cases.csv"], "2 offered, 0 refused, 2 filed in archive as records 2 to 3");
             place.write("one.csv", b"kind,row,dossier,a,b,c\n4,1,11,5,0,1\n");
-            done(&["import", "archive", "one.csv"], "1 read, 0 refused, 1 filed in archive as record 4");
+            done(&["import", "archive", "one.csv"], "1 offered, 0 refused, 1 filed in archive as record 4");
             assert_eq!(place.read("archive").len(), 16 + 5 * 96);
             place.run(&["verify", "archive"]).ends(0);
             assert_eq!(place.names(), ["archive", "cases.csv", "one.csv", "p1", "shown"]);
@@ -74,7 +74,11 @@ fn an_import_that_filed_a_part_says_which() {
         let ran = run(&place, &["import", "archive", "cases.csv", "--keep-going"], output);
         let lines: Vec<&str> = ran.ends(71).err.lines().collect();
         assert!(lines[0].starts_with("cases.csv:3: refused 2: "), "{}", ran.err);
-        assert!(lines[1].starts_with("csorvelin: 2 read, 1 refused, 1 filed in archive as record 0; "), "{}", ran.err);
+        assert!(
+            lines[1].starts_with("csorvelin: 2 offered, 1 refused, 1 filed in archive as record 0; "),
+            "{}",
+            ran.err
+        );
         assert_eq!(place.read("archive").len(), 16 + 96);
     }
 }
@@ -172,6 +176,31 @@ fn a_reader_that_has_seen_enough() {
         Ran::of(command.args(["-c", shell]).arg(common::program()).current_dir(&place.directory).output().unwrap());
     assert_eq!(ran.ends(0).out, "n dossier kind row route stp surface air soil\n");
     assert_eq!(ran.err, "");
+}
+
+/// As on a disk that fills: a part of the answer is taken, the rest is not, and nothing is tried again.
+#[test]
+fn standard_output_that_takes_a_part() {
+    let place = Place::new("a_part");
+    place.write("big", &archive_of(500, &mut Random::new(962)));
+    place.write("archive", &archive::trailer(0));
+    let limited = |words: &[&str], length: usize| {
+        place.write("out", &vec![0; length]);
+        let out = std::fs::OpenOptions::new().append(true).open(place.path("out")).unwrap();
+        Ran::of(place.command_after("trap '' XFSZ && ulimit -f 8", words).stdout(out).output().unwrap())
+    };
+    // Blocks of 512 or of 1,024 bytes: the limit is one of two.
+    let end = if limited(&["list", "big", "--csv"], 0).ends(74).err.is_empty() { 0 } else { place.read("out").len() };
+    assert!([4096, 8192].contains(&end), "{end}");
+    for length in [end - 100, end - 1] {
+        let ran = limited(&["list", "big", "--csv"], length);
+        assert_eq!((ran.ends(74).err.lines().count(), place.read("out").len()), (1, end), "{}", ran.err);
+        let dossier = format!("dossier={length}");
+        let ran = limited(&filing("archive", &dossier), length);
+        assert!(ran.ends(71).err.starts_with("csorvelin: filed in archive as record "), "{}", ran.err);
+        assert_eq!((ran.err.lines().count(), place.read("out").len()), (1, end), "{}", ran.err);
+    }
+    assert_eq!(place.read("archive").len(), 16 + 2 * 96);
 }
 
 /// A folder in which names can be written but not read cannot be synced: it is filed, and a loss of power may undo it.

@@ -47,7 +47,8 @@ fn printed(name: &str, bytes: &[u8], sha256: &str) -> String {
     let (out, again) = (so_many(&faults, "its case"), so_many(&faults, "it is the same"));
     let right = n - out - so_many(&faults, "the record holds");
     text += &format!("archive  {name}, {} bytes\nsha-256  {sha256}\n", bytes.len());
-    text += &format!("trailer  as it must be: {n} records, edition 1\n");
+    let counted = |number: usize, what: &str| format!("{number} {what}{}", if number == 1 { "" } else { "s" });
+    text += &format!("trailer  as it must be: {}, edition 1\n", counted(n, "record"));
     text += &format!("ranges   {} of {n} cases are within the ranges\n", n - out);
     text += &format!(
         "figures  {right} of {n} records hold the figures of their cases, by the library and by an independent model\n"
@@ -58,7 +59,7 @@ fn printed(name: &str, bytes: &[u8], sha256: &str) -> String {
     };
     text + &match faults.len() {
         0 => "verified: all agree\n".to_string(),
-        count => format!("NOT IN ORDER: {count} faults\n"),
+        count => format!("NOT IN ORDER: {}\n", counted(count, "fault")),
     }
 }
 
@@ -225,7 +226,13 @@ fn what_is_no_archive_is_refused() {
     for bytes in cuts.chain(flips) {
         place.write("archive", &bytes);
         let ran = place.run(&["verify", "archive"]);
-        assert!(ran.ends(21).out.is_empty() && ran.err.starts_with("refused 21: "), "{}", ran.err);
+        assert!(ran.ends(21).err.starts_with("refused 21: "), "{}", ran.err);
+        let lines: Vec<&str> = ran.out.lines().collect();
+        assert_eq!(lines[0], format!("archive  archive, {} bytes", bytes.len()));
+        if let Some(sha256) = sha256sum(&place, "archive") {
+            assert_eq!(lines[1], format!("sha-256  {sha256}"));
+        }
+        assert!(lines[2].starts_with("trailer  NOT AS IT MUST BE: ") && lines.len() == 3, "{}", ran.out);
         assert_eq!(place.run_on(&bytes, &["verify", "-"]).status, Some(21));
         assert_eq!(Json::read(&place.run(&["verify", "archive", "--json"]).ends(21).out).number(&["refused"]), 21);
         assert_eq!(place.read("archive"), bytes);

@@ -178,11 +178,11 @@ fn a_case_file_stopped_at_each_step() {
     let before = folder.files();
     assert!(before.iter().filter(|(name, bytes)| is_hidden(name) && bytes.len() == 64).count() >= 6);
     let ran = place.run(&["import", "archive", "cases", "--keep-going"]);
-    assert!(ran.ends(65).out.starts_with("2 read, 2 refused, none filed"), "{}", ran.out);
+    assert!(ran.ends(65).out.starts_with("2 offered, 2 refused, none filed"), "{}", ran.out);
     place.run(&["new", "empty"]).ends(0);
     fs::remove_file(folder.path("shown")).unwrap();
     let ran = place.run(&["import", "empty", "cases"]);
-    assert!(ran.ends(0).out.starts_with("1 read, 0 refused, 1 filed in empty as record 0"), "{}", ran.out);
+    assert!(ran.ends(0).out.starts_with("1 offered, 0 refused, 1 filed in empty as record 0"), "{}", ran.out);
     assert_eq!(folder.files(), before.into_iter().filter(|(name, _)| name != "shown").collect());
 }
 

@@ -5,14 +5,13 @@ use Prim.Native.Nat.{ℕ, _-_, _*_, _≤_}
 use native.Mathlib.Omega.{arith}
 use borrow.Author.Needs.{needs}
 use borrow.Author.Tests.{eq-eqb, ne-eqb}
-use Rattle.natural.specs.Value.{productOf}
 use native.Mathlib.Nat.{mul-le-mul-right}
 use Rattle.product.specs.Chain.{number, quantity}
 use Rattle.equations.specs.Equations.{application, toWater}
 use Rattle.equations.specs.Ranges.{Within, InRange}
 use Rattle.equations.specs.Constants.{numbers}
 use Rattle.equations.proofs.Chains.{others}
-use Rattle.equations.proofs.Multiplied.{term, chain-at-most, figure, small, within-each}
+use Rattle.equations.proofs.Multiplied.{term, productOf, chain-at-most, figure, small, within-each}
 use Rattle.equations.proofs.Tables.{constant-small, lost-fits, figure-lost}
 use Rattle.equations.proofs.application.Statement.{statement}
 use Rattle.equations.proofs.application.Tie as tie

@@ -6,7 +6,6 @@ use native.Mathlib.Omega.{arith}
 use borrow.Author.Needs.{needs}
 use lib.Ieee.{Float}
 use lib.ListN.{getD}
-use Rattle.natural.specs.Value.{productOf}
 use Rattle.product.specs.Ratio.{_over_, _·_, roundedUp}
 use Rattle.product.specs.Chain.{quantity, chain}
 use Rattle.product.specs.Ranges.{UpTo}
@@ -14,7 +13,7 @@ use Rattle.equations.specs.Equations.{formulation, toWater, toAir, toSoi
 use Rattle.equations.specs.Ranges.{Within, InRange}
 use Rattle.equations.specs.Constants.{numbers}
 use Rattle.equations.proofs.Chains.{others}
-use Rattle.equations.proofs.Multiplied.{small, within-each, term, chain-at-most, largest64, figure}
+use Rattle.equations.proofs.Multiplied.{small, within-each, term, productOf, chain-at-most, largest64, figure}
 use Rattle.equations.proofs.formulation.Statement.{statement}
 use Rattle.equations.proofs.formulation.Tie as tie
 

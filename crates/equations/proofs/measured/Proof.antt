@@ -5,7 +5,6 @@ use Prim.Native.Nat.{ℕ, _-_}
 use native.Mathlib.Omega.{arith}
 use borrow.Author.Needs.{needs}
 use borrow.Author.Tests.{eq-eqb, ne-eqb}
-use Rattle.natural.specs.Value.{productOf}
 use lib.Pow.{pow-pos}
 use Rattle.equations.specs.Rows.{cityAt}
 use Rattle.product.specs.Ratio.{exactly}
@@ -15,7 +14,7 @@ use Rattle.equations.specs.Ranges.{Within, InRange}
 use Rattle.equations.specs.Constants.{numbers}
 use Rattle.product.proofs.Chains.{pull, quantities-positive}
 use Rattle.equations.proofs.Chains.{others}
-use Rattle.equations.proofs.Multiplied.{term, next, sum-at-most, figure-sum, small, within-each}
+use Rattle.equations.proofs.Multiplied.{term, next, productOf, sum-at-most, figure-sum, small, within-each}
 use Rattle.product.proofs.Limbs.{up-to-largest}
 use Rattle.equations.proofs.Tables.{older-positive, older-same, figure-sum-at}
 use Rattle.equations.proofs.measured.Statement.{statement}

@@ -5,14 +5,13 @@ use Prim.Native.Nat.{ℕ}
 use native.Mathlib.Omega.{arith}
 use borrow.Author.Needs.{needs}
 use borrow.Author.Tests.{eq-eqb, ne-eqb}
-use Rattle.natural.specs.Value.{productOf}
 use Rattle.product.specs.Chain.{quantity, less}
 use Rattle.equations.specs.Equations.{toilets, toWater}
 use Rattle.equations.specs.Ranges.{Within, InRange}
 use Rattle.equations.specs.Constants.{numbers}
 use Rattle.product.proofs.Chains.{pull}
 use Rattle.equations.proofs.Chains.{others}
-use Rattle.equations.proofs.Multiplied.{term, remainder-at-most, figure, small, within-each}
+use Rattle.equations.proofs.Multiplied.{term, productOf, remainder-at-most, figure, small, within-each}
 use Rattle.equations.proofs.toilets.Statement.{statement}
 use Rattle.equations.proofs.toilets.Tie as tie
 

@@ -5,14 +5,13 @@ use Prim.Native.Nat.{ℕ}
 use native.Mathlib.Omega.{arith}
 use borrow.Author.Needs.{needs}
 use borrow.Author.Tests.{eq-eqb, ne-eqb}
-use Rattle.natural.specs.Value.{productOf}
 use Rattle.equations.specs.Rows.{cityAt}
 use Rattle.product.specs.Chain.{quantity}
 use Rattle.equations.specs.Equations.{unknown, unknownAt, toWater}
 use Rattle.equations.specs.Ranges.{Within, InRange}
 use Rattle.equations.specs.Constants.{numbers}
 use Rattle.equations.proofs.Chains.{others}
-use Rattle.equations.proofs.Multiplied.{term, chain-at-most, figure, small, within-each}
+use Rattle.equations.proofs.Multiplied.{term, productOf, chain-at-most, figure, small, within-each}
 use Rattle.equations.proofs.Tables.{figure-at}
 use Rattle.equations.proofs.unknown.Statement.{statement}
 use Rattle.equations.proofs.unknown.Tie as tie

@@ -1,5 +1,6 @@
 -- By 1 nothing changes; otherwise by `grow`.
 use native.Mathlib.Nat.{mul-one}
+use native.Mathlib.Omega.{arith}
 use borrow.Author.Needs.{needs}
 use Rattle.product.proofs.times.Statement.{statement}
 use Rattle.product.proofs.times.Tie as tie
@@ -11,4 +12,4 @@ times-spec =
     (λ c. rw (c .if1 .taken, mul-one) (search needs))
     (λ c κs. search needs)
     (λ c. search needs)
-    (λ c. search needs))
+    (λ c. (omega arith, omega arith)))

@@ -29,6 +29,7 @@ pub fn new(arguments: &Arguments) -> Answer {
 pub fn file(arguments: &Arguments) -> Answer {
     let [path] = arguments.places()?;
     let (path, wait) = (arguments.written(path)?, arguments.wait()?);
+    store::is_file(path)?;
     let given = arguments.case()?;
     let typed = given.typed.as_ref();
     // A refusal from the input comes before anything of the archive is looked at.
@@ -64,16 +65,13 @@ pub fn show(arguments: &Arguments) -> Answer {
     let number = record_number(number)?;
     let archive = archive_of(path, store::read_archive(path)?)?;
     let record = record_of(&archive, number)?;
-    with_case_written(arguments, record.case_bytes(), record_text(number, &record, arguments).into())
+    let text = record_text(number, &record, arguments);
+    with_case_written(arguments, record.case_bytes(), text, describe::record_json(number, &record))
 }
 
 fn record_text(number: u64, record: &Record, arguments: &Arguments) -> String {
-    let (case, figures) = (record.case(), record.figures());
-    if arguments.json() {
-        return line(describe::record_json(number, record));
-    }
-    let case = describe::case_text(&case, None, arguments.has(Opt::Exact));
-    format!("record   {number}\n{case}\n{}", describe::figures_text(figures))
+    let case = describe::case_text(&record.case(), None, arguments.has(Opt::Exact));
+    format!("record   {number}\n{case}\n{}", describe::figures_text(record.figures()))
 }
 
 pub fn worst(arguments: &Arguments) -> Answer {
@@ -85,5 +83,6 @@ pub fn worst(arguments: &Arguments) -> Answer {
         refused(refusal, "archive", "no record".to_string(), "an archive with at least one record".to_string())
     })?;
     let record = record_of(&archive, number)?;
-    Ok(record_text(number, &record, arguments).into())
+    let json = arguments.json().then(|| line(describe::record_json(number, &record)));
+    Ok(json.unwrap_or_else(|| record_text(number, &record, arguments)).into())
 }

@@ -140,11 +140,8 @@ pub fn describe_case(arguments: &Arguments) -> Answer {
     if arguments.has(Opt::Out) {
         complete(arguments, &case, typed)?;
     }
-    let text = if arguments.json() {
-        line(describe::case_json(&case, typed))
-    } else {
-        let text = describe::case_text(&case, typed, arguments.has(Opt::Exact));
-        format!("{text}bytes    {}\n", describe::hex(&given.bytes))
-    };
-    with_case_written(arguments, &given.bytes, Output::from(text).noting(describe::missing(&case, typed)))
+    let text = describe::case_text(&case, typed, arguments.has(Opt::Exact));
+    let text = format!("{text}bytes    {}\n", describe::hex(&given.bytes));
+    let answer = with_case_written(arguments, &given.bytes, text, describe::case_json(&case, typed))?;
+    Ok(answer.noting(describe::missing(&case, typed)))
 }

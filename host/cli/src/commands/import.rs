@@ -3,12 +3,13 @@
 use super::cases::{blank, worked_out};
 use super::{archive_of, done, line, Answer};
 use crate::arguments::{Arguments, Given, Opt};
-use crate::csv::{Row, Rows};
+use crate::csv::{Fault, Row, Rows};
 use crate::failure::{Failure, NOT_IN_ORDER};
 use crate::filings::Filings;
 use crate::json::Json;
 use crate::output::Output;
 use crate::paths::shown;
+use crate::progress::Progress;
 use crate::refusals::filing_refused;
 use crate::store::{self, Change, Written};
 use csorvelin_binding::{Archive, Case, CASE_BYTES};
@@ -29,6 +30,7 @@ pub fn import(arguments: &Arguments) -> Answer {
         return arguments.wrong_places();
     }
     let (archive, wait) = (arguments.written(archive)?, arguments.wait()?);
+    store::is_file(archive)?;
     let (keep_going, dry_run) = (arguments.has(Opt::KeepGoing), arguments.has(Opt::DryRun));
     let batch = Batch::of(paths, arguments.has(Opt::BlankAsZero));
     let judged = |old: Vec<u8>| {
@@ -36,7 +38,7 @@ pub fn import(arguments: &Arguments) -> Answer {
         Ok((if outcome.filed == 0 { Change::Nothing } else { Change::To(new.into_bytes()) }, outcome))
     };
     let written = if dry_run {
-        let (_, answer) = judged(store::read_archive(archive)?)?;
+        let (_, answer) = judged(store::look(archive)?)?;
         Written { answer, doubt: None }
     } else {
         store::change(archive, wait, judged)?
@@ -49,7 +51,8 @@ pub fn import(arguments: &Arguments) -> Answer {
         let refused: String = outcome.refused.iter().map(Refused::text).collect();
         Output::from(format!("{summary}\n")).noting(refused)
     };
-    let output = output.noting(outcome.notes.clone()).ending(if outcome.refused.is_empty() { 0 } else { NOT_IN_ORDER });
+    let notes = outcome.notes.iter().map(|note| format!("{note}\n")).collect();
+    let output = output.noting(notes).ending(if outcome.refused.is_empty() { 0 } else { NOT_IN_ORDER });
     Ok(if dry_run || outcome.filed == 0 { output } else { done(output, &written, summary) })
 }
 
@@ -98,8 +101,9 @@ impl Refused {
 #[derive(Default)]
 struct Batch {
     blank_as_zero: bool,
-    read: u64,
-    offered: Vec<Offered>,
+    /// How many places something is said of: cases, lines, files that cannot be read.
+    places: u64,
+    passed: Vec<Offered>,
     refused: Vec<Refused>,
 }
 
@@ -123,10 +127,10 @@ impl Batch {
         batch
     }
 
-    /// The next place to be read.
+    /// The next place that something is said of.
     fn place(&mut self, file: &Rc<str>, line: Option<u64>) -> Place {
-        self.read += 1;
-        Place { index: self.read, file: file.clone(), line }
+        self.places += 1;
+        Place { index: self.places, file: file.clone(), line }
     }
 
     fn refuse(&mut self, place: Place, why: Failure) {
@@ -169,6 +173,7 @@ impl Batch {
     }
 
     fn csv(&mut self, file: Rc<str>, from: impl BufRead) {
+        let before = self.passed.len();
         let rows = match Rows::new(from) {
             Ok(rows) => rows,
             Err((line, message)) => {
@@ -178,14 +183,19 @@ impl Batch {
         };
         for (line, row) in rows {
             let place = self.place(&file, Some(line));
-            match row {
-                Ok(_) if self.read > MOST_RECORDS => {
-                    let message = format!("these are over {MOST_RECORDS} cases, more than any archive holds");
-                    return self.refuse(place, Failure::Usage(message));
+            let row = match row {
+                Ok(_) if self.places > MOST_RECORDS => {
+                    Err(Fault::File(format!("these are over {MOST_RECORDS} cases, more than any archive holds")))
                 }
-                Ok(Ok(row)) => self.offer(place, row),
-                Ok(Err(message)) => self.refuse(place, Failure::Usage(message)),
-                Err(error) => return self.refuse(place, Failure::Unreadable(error.to_string())),
+                row => row,
+            };
+            match row {
+                Ok(row) => self.offer(place, row),
+                Err(Fault::Line(message)) => self.refuse(place, Failure::Usage(message)),
+                Err(Fault::File(message)) => {
+                    self.passed.truncate(before);
+                    return self.refuse(place, Failure::Usage(format!("{message}; nothing of this file is taken")));
+                }
             }
         }
     }
@@ -197,11 +207,11 @@ impl Batch {
         };
         let blank = blank(&case, row.given.typed.as_ref());
         if let Some(blank) = blank.as_ref().filter(|_| !self.blank_as_zero) {
-            return self.refuse(place, Failure::Usage(format!("{blank} (--blank-as-zero counts it as 0)")));
+            return self.refuse(place, Failure::Usage(format!("{blank}; --blank-as-zero counts it as 0")));
         }
         match row.fault(&case, figures) {
             Some(fault) => self.refuse(place, Failure::Usage(fault)),
-            None => self.offered.push(Offered { place, case: case.to_bytes(), blank }),
+            None => self.passed.push(Offered { place, case: case.to_bytes(), blank }),
         }
     }
 
@@ -209,11 +219,13 @@ impl Batch {
     fn filed_in(mut self, mut archive: Archive, keep_going: bool) -> (Archive, Outcome) {
         let first = archive.len();
         let mut filed: Vec<Place> = vec![];
-        let (mut filings, mut notes) = (Filings::default(), String::new());
-        for Offered { place, case, blank } in mem::take(&mut self.offered) {
+        let (mut filings, mut notes) = (Filings::default(), vec![]);
+        let mut progress = Progress::new("judged", "cases", self.passed.len() as u64);
+        for (index, Offered { place, case, blank }) in (0..).zip(mem::take(&mut self.passed)) {
+            progress.at(index);
             match archive.file(&case) {
                 Ok(_) => {
-                    notes.extend(blank.map(|blank| format!("{}: note: {blank}; counts as 0\n", place.text())));
+                    notes.extend(blank.map(|blank| format!("{}: note: {blank}; counts as 0", place.text())));
                     filed.push(place);
                 }
                 Err(refusal) => {
@@ -229,34 +241,33 @@ impl Batch {
         self.refused.sort_by_key(|refused| refused.place.index);
         let passed = filed.len() as u64;
         let filed = if keep_going || self.refused.is_empty() { passed } else { 0 };
-        let Batch { read, refused, .. } = self;
-        (archive, Outcome { read, first, passed, filed, refused, notes })
+        let Batch { places, refused, .. } = self;
+        (archive, Outcome { offered: places, first, passed, filed, refused, notes })
     }
 }
 
 /// What became of a batch.
 struct Outcome {
-    read: u64,
+    offered: u64,
     /// The number that the first record filed has.
     first: u64,
     passed: u64,
     filed: u64,
     refused: Vec<Refused>,
-    /// A line for each case that passes with blanks that count as 0.
-    notes: String,
+    /// One for each case that passes with blanks that count as 0.
+    notes: Vec<String>,
 }
 
 impl Outcome {
     fn summary(&self, archive: &OsStr, dry_run: bool) -> String {
-        let Outcome { read, first, passed, filed, .. } = self;
-        let refused = self.refused.len();
-        let read = format!("{read} read, {refused} refused");
+        let Outcome { offered, first, passed, filed, .. } = self;
+        let offered = format!("{offered} offered, {} refused", self.refused.len());
         let (would, archive) = (if dry_run { "would be " } else { "" }, shown(archive));
         match filed {
-            0 if *passed == 0 => format!("{read}, none {would}filed; {archive} is as it was"),
-            0 => format!("{read}, none {would}filed; {archive} is as it was; --keep-going would file {passed}"),
-            1 => format!("{read}, 1 {would}filed in {archive} as record {first}"),
-            _ => format!("{read}, {filed} {would}filed in {archive} as records {first} to {}", first + filed - 1),
+            0 if *passed == 0 => format!("{offered}, none {would}filed; {archive} is as it was"),
+            0 => format!("{offered}, none {would}filed; {archive} is as it was; --keep-going would file {passed}"),
+            1 => format!("{offered}, 1 {would}filed in {archive} as record {first}"),
+            _ => format!("{offered}, {filed} {would}filed in {archive} as records {first} to {}", first + filed - 1),
         }
     }
 
@@ -264,8 +275,10 @@ impl Outcome {
         let outcome = Json::object([
             ("archive", Json::from(shown(archive))),
             ("dry_run", Json::from(dry_run)),
-            ("read", Json::from(self.read)),
+            ("offered", Json::from(self.offered)),
+            ("passed", Json::from(self.passed)),
             ("filed", Json::from(self.filed)),
+            ("notes", Json::list(self.notes.iter().map(|note| Json::from(note.as_str())))),
         ]);
         let first = (self.filed > 0).then(|| Json::from(self.first));
         outcome.and("first", first).and("refused", Some(Json::list(self.refused.iter().map(Refused::json))))

@@ -80,7 +80,7 @@ case only with every quantity that its kind carries, or with --blank-as-zero.",
         options: &[Opt::Case, Opt::BlankAsZero, Opt::Exact, Opt::Wait],
         about: "\
 A case is taken only with every quantity that its kind carries, so that no blank is filed as 0 by
-accident; --blank-as-zero takes it as it is. A record is never changed or removed afterwards.
+accident; --blank-as-zero counts a blank as 0. A record is never changed or removed afterwards.
 The archive is at any time the old one or the new one, whole; owner, group and mode stay. One
 without write permission is sealed and not written to (status 77).",
         example: "csorvelin file archive kind=4 row=1 dossier=7 a=100 b=0 c=1",
@@ -94,8 +94,9 @@ without write permission is sealed and not written to (status 77).",
 A PATH is a case file of 64 bytes, a folder of such files (in the order of their names; hidden ones
 are left out), or CSV: a file whose name ends in .csv, or - for standard input. CSV has a header
 line with some of the columns kind, row, route, user, T, dossier, a to f; comma or semicolon; blank
-cells as fields that are not given. The further columns of list --csv, where they are filled, must
-agree with the case: a line whose figures are not those of its case is not filed.
+cells as fields that are not given; decimal points, and no thousands separators. The figures and
+exact values of list --csv, where they are filled, must agree with the case: a line whose figures
+are not those of its case is not filed. The column record is not looked at.
 Each case that is refused gets a line with its file and line; the exit status is then 65.",
         example: "csorvelin import archive cases.csv --dry-run",
         run: import::import,
@@ -134,7 +135,8 @@ The compartment of --top is stp, surface, air or soil (1 to 4); among equals the
         about: "\
 Looks at the trailer, whether each case is within the ranges, whether each record holds the figures
 of its case, and whether two records are the same filing; prints a line for each fault, a summary
-and the SHA-256 of the bytes. The exit status is 0 where all agree and 65 where not.",
+and the SHA-256 of the bytes. The exit status is 0 where all agree, 65 where not, 21 where it is no
+archive, and 70 where library and model differ.",
         example: "csorvelin verify archive",
         run: verify::verify,
     },
@@ -230,16 +232,19 @@ fn done<T>(output: Output, written: &Written<T>, what: String) -> Output {
     .done(what)
 }
 
-/// The output of a command that may have been asked to write its case to a new file.
-fn with_case_written(arguments: &Arguments, case: &[u8], output: Output) -> Answer {
+/// The answer of a command that may have been asked to write its case to a new file.
+fn with_case_written(arguments: &Arguments, case: &[u8], text: String, json: Json) -> Answer {
+    let form = |text: String, json: Json| Output::from(if arguments.json() { line(json) } else { text });
     let Some(path) = arguments.value(Opt::Out) else {
-        return Ok(output);
+        return Ok(form(text, json));
     };
     if path == "-" {
         return Err(Failure::Usage("--out needs a file, not standard output".to_string()));
     }
     let written = store::create(path, case)?;
-    Ok(done(output, &written, format!("{} is written", shown(path))))
+    let path = shown(path);
+    let output = form(format!("{text}written  {path}\n"), json.and("written", Some(Json::from(path.as_str()))));
+    Ok(done(output, &written, format!("{path} is written")))
 }
 
 /// The archive in the bytes of a file, or refusal 21.

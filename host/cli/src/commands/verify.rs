@@ -1,8 +1,9 @@
 //! The check of a whole archive.
 
 use super::cases::{agreed_sheet, fault};
-use super::{archive_of, line, Answer};
+use super::{line, opened, Answer};
 use crate::arguments::Arguments;
+use crate::describe::counted;
 use crate::failure::{Failure, DISAGREEMENT, NOT_IN_ORDER};
 use crate::filings::Filings;
 use crate::json::Json;
@@ -10,6 +11,7 @@ use crate::output::Output;
 use crate::paths::shown;
 use crate::progress::Progress;
 use crate::refusals::case_refused;
+use crate::store::MOST_ARCHIVE_BYTES;
 use crate::{sha256, store};
 use csorvelin_binding::{work_out, Archive, Record};
 use csorvelin_model::archive::EDITION;
@@ -43,40 +45,74 @@ impl Fault {
 
 /// An archive's records looked at.
 struct Findings {
-    archive: String,
-    bytes: u64,
-    sha256: String,
+    file: Named,
     records: u64,
     faults: Vec<(u64, Fault)>,
 }
 
 pub fn verify(arguments: &Arguments) -> Answer {
     let [path] = arguments.places()?;
-    let archive = archive_of(path, store::read_archive(path)?)?;
-    let findings = Findings::of(shown(path), &archive);
-    let (status, json) = (findings.status(), arguments.json());
-    Ok(Output::stream(move |to| if json { findings.write_json(to) } else { findings.write(to) }).ending(status))
+    let bytes = store::read_archive(path)?;
+    let file = Named { archive: shown(path), bytes: bytes.len() as u64, sha256: sha256::digest(&bytes) };
+    let json = arguments.json();
+    match opened(path, bytes) {
+        Ok(archive) => {
+            let findings = Findings::of(file, &archive);
+            let status = findings.status();
+            Ok(Output::stream(move |to| if json { findings.write_json(to) } else { findings.write(to) }).ending(status))
+        }
+        // What is longer than any archive is not read to its end, so it has no digest.
+        Err(violation) if file.bytes > MOST_ARCHIVE_BYTES => Err(Failure::Refused(violation)),
+        Err(violation) => Ok(no_archive(&file, violation, json)),
+    }
+}
+
+/// What is said of bytes that are no archive: what they are, and the refusal.
+fn no_archive(file: &Named, violation: Violation, json: bool) -> Output {
+    let text = format!("{}trailer  NOT AS IT MUST BE: {}\n", file.text(), violation.found);
+    let failure = Failure::Refused(violation);
+    let output = if json {
+        Output::from(line(file.json().joined(failure.json()).and("agrees", Some(Json::from(false)))))
+    } else {
+        Output::from(text).noting(failure.text())
+    };
+    output.ending(failure.status())
+}
+
+/// A file by its name, its length and its content.
+struct Named {
+    archive: String,
+    bytes: u64,
+    sha256: String,
+}
+
+impl Named {
+    fn text(&self) -> String {
+        let Named { archive, bytes, sha256 } = self;
+        format!("archive  {archive}, {bytes} bytes\nsha-256  {sha256}\n")
+    }
+
+    fn json(&self) -> Json {
+        Json::object([
+            ("archive", Json::from(self.archive.as_str())),
+            ("bytes", Json::from(self.bytes)),
+            ("sha256", Json::from(self.sha256.as_str())),
+        ])
+    }
 }
 
 impl Findings {
-    fn of(name: String, archive: &Archive) -> Findings {
+    fn of(file: Named, archive: &Archive) -> Findings {
         let mut faults = vec![];
         let mut filings = Filings::default();
-        let mut progress = Progress::new("verified", archive.len());
+        let mut progress = Progress::new("verified", "records", archive.len());
         for (number, record) in (0..).zip(archive.records()) {
             progress.at(number);
             faults.extend(record_fault(&record).map(|fault| (number, fault)));
             let earlier = filings.first(archive, &record.case()).filter(|&first| first < number);
             faults.extend(earlier.map(|earlier| (number, Fault::Again(earlier))));
         }
-        let bytes = archive.bytes();
-        Findings {
-            archive: name,
-            bytes: bytes.len() as u64,
-            sha256: sha256::digest(bytes),
-            records: archive.len(),
-            faults,
-        }
+        Findings { file, records: archive.len(), faults }
     }
 
     fn status(&self) -> u8 {
@@ -98,13 +134,12 @@ impl Findings {
         for (number, fault) in &self.faults {
             writeln!(to, "record {number}: {}", fault.words())?;
         }
-        let Findings { archive, bytes, sha256, records, faults } = self;
+        let Findings { file, records, faults } = self;
         let out = self.count(|fault| matches!(fault, Fault::Range(_)));
         let wrong = self.count(|fault| matches!(fault, Fault::Figures(_) | Fault::Models(_)));
         let again = self.count(|fault| matches!(fault, Fault::Again(_)));
-        writeln!(to, "archive  {archive}, {bytes} bytes")?;
-        writeln!(to, "sha-256  {sha256}")?;
-        writeln!(to, "trailer  as it must be: {records} records, edition {EDITION}")?;
+        let (count, all) = (counted(*records, "record"), faults.len() as u64);
+        writeln!(to, "{}trailer  as it must be: {count}, edition {EDITION}", file.text())?;
         writeln!(to, "ranges   {} of {records} cases are within the ranges", records - out)?;
         writeln!(
             to,
@@ -115,9 +150,9 @@ impl Findings {
             0 => writeln!(to, "filings  no two records are the same filing")?,
             _ => writeln!(to, "filings  {again} of {records} records are the same filing as an earlier one")?,
         }
-        match faults.len() {
+        match all {
             0 => writeln!(to, "verified: all agree"),
-            count => writeln!(to, "NOT IN ORDER: {count} faults"),
+            _ => writeln!(to, "NOT IN ORDER: {}", counted(all, "fault")),
         }
     }
 
@@ -128,14 +163,11 @@ impl Findings {
             let entry = Json::object([("record", Json::from(*number)), ("fault", Json::from(fault.words()))]);
             write!(to, "{separator}{entry}")?;
         }
-        let summary = Json::object([
-            ("archive", Json::from(self.archive.as_str())),
-            ("bytes", Json::from(self.bytes)),
-            ("sha256", Json::from(self.sha256.as_str())),
+        let summary = self.file.json().joined(Json::object([
             ("records", Json::from(self.records)),
             ("edition", Json::from(EDITION as u32)),
             ("agrees", Json::from(self.faults.is_empty())),
-        ]);
+        ]));
         // The summary's entries stand behind the list.
         write!(to, "],{}", &line(summary)[1..])
     }

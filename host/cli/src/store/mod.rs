@@ -10,7 +10,7 @@ mod place;
 mod reading;
 mod temporary;
 
-pub use reading::{case_bytes, read_archive, read_case, regular_file, MOST_ARCHIVE_BYTES};
+pub use reading::{case_bytes, is_file, read_archive, read_case, regular_file, MOST_ARCHIVE_BYTES};
 
 use crate::failure::Failure;
 use crate::paths::{directory_of, shown};

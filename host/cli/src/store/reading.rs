@@ -45,25 +45,34 @@ fn bounded(from: impl Read, most: u64) -> io::Result<Vec<u8>> {
     Ok(bytes)
 }
 
+/// Refuses what is there and is no regular file, before anything is waited for.
+pub fn is_file(path: &OsStr) -> Result<(), Failure> {
+    match Path::new(path).metadata() {
+        Ok(metadata) => regular(metadata.file_type()).map_err(|error| unreadable(path, &error)),
+        Err(_) => Ok(()),
+    }
+}
+
 /// A regular file, opened; anything else is refused without waiting for it.
 pub fn regular_file(path: &Path, options: &OpenOptions) -> io::Result<File> {
-    let is_file = |file_type: FileType| if file_type.is_file() { Ok(()) } else { Err(no_file(file_type)) };
-    is_file(path.metadata()?.file_type())?;
+    regular(path.metadata()?.file_type())?;
     let file = options.clone().custom_flags(O_NONBLOCK).open(path)?;
     // It may have become another one since.
-    is_file(file.metadata()?.file_type())?;
+    regular(file.metadata()?.file_type())?;
     Ok(file)
 }
 
-fn no_file(file_type: FileType) -> io::Error {
-    let what = if file_type.is_dir() {
+fn regular(file_type: FileType) -> io::Result<()> {
+    let what = if file_type.is_file() {
+        return Ok(());
+    } else if file_type.is_dir() {
         "it is a directory, not a file"
     } else if file_type.is_fifo() {
-        "it is a FIFO, not a file; - reads standard input"
+        "it is a FIFO, not a file"
     } else {
-        "it is a device or socket, not a file; - reads standard input"
+        "it is a device or socket, not a file"
     };
-    io::Error::new(ErrorKind::InvalidInput, what)
+    Err(io::Error::new(ErrorKind::InvalidInput, what))
 }
 
 pub fn unreadable(path: impl AsRef<OsStr>, error: &io::Error) -> Failure {

@@ -4,7 +4,7 @@ use borrow.Author.Needs.{needs}
 use native.Mathlib.Omega.{arith}
 use lib.ListN.{length-take, length-drop}
 use lib.Seq.{length-take-le}
-use Rattle.chain.proofs.Start.{add-term-done, term-small}
+use Rattle.chain.proofs.Start.{add-term-done}
 use Rattle.chain.proofs.starts.add_term.Statement.{statement}
 use Rattle.chain.proofs.starts.add_term.Tie as tie
 
@@ -13,7 +13,7 @@ returns c =
     let a = c .before .before in
     let y = a .before .before .before .before in
     let s = y .before .before .before in
-    (add-term-done _ _ (s .args .shift) _ _ _ (omega arith) (y .lay-term .ensures .0) (a .add .ensures .0), term-small _ _ (s .args .shift) _ (s .fits .weight .fits) (s .fits .significand .fits) (s .pre))
+    add-term-done _ _ (s .args .at) _ _ _ (omega arith) (y .lay .ensures .0) (a .add .ensures .0)
 
 pub add-term-spec : {M : Type 1} → statement M
 add-term-spec =

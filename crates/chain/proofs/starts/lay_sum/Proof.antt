@@ -5,7 +5,7 @@ use Prim.Native.Nat.{_-_, _*_, _^_}
 use borrow.Rule.Slice.PartMut.{same-len-mid}
 use lib.ListN.{length}
 use Rattle.natural.specs.Value.{value}
-use Rattle.chain.proofs.Start.{sum-done}
+use Rattle.chain.proofs.Start.{term-small, sum-done}
 use Rattle.chain.proofs.starts.lay_sum.Statement.{statement}
 use Rattle.chain.proofs.starts.lay_sum.Tie as tie
 
@@ -14,13 +14,12 @@ returns c =
     let a = c .before .before in
     let z = a .before .before .before .before in
     let y = z .before .before .before .before in
-    let p = y .before .before .before .args .a in
-    let q = y .before .before .before .args .b in
-    let l = y .lay-term .last .0 in
-    let n = y .lay-term .result in
-    let e = y .lay-term .kept .0 in
+    let s = y .before .before .before in
+    let p = s .args in
+    let l = y .lay .last .0 in
+    let n = y .lay .result in
     let k = same-len-mid n (length l - n) l (z .clear .last .0) (z .clear .kept .0) in
-    sum-done l (z .clear .last .0) n (value (a .add-term .last .0)) (a .add-term .result) (p .weight * p .significand * 2 ^ p .shift) (q .weight * q .significand * 2 ^ q .shift) (omega arith) (y .lay-term .ensures .0) (z .clear .ensures) k (a .add-term .ensures .0) (rw e (y .lay-term .ensures .2)) (rw (← k) (a .add-term .ensures .1))
+    sum-done l (z .clear .last .0) n (value (a .add-term .last .0)) (a .add-term .result) (p .x * 2 ^ p .s) (p .y * 2 ^ p .t) (omega arith) (y .lay .ensures .0) (z .clear .ensures) k (a .add-term .ensures) (term-small (p .x) (p .s) (length l) (s .fits .x .fits) (omega arith)) (term-small (p .y) (p .t) (length l) (s .fits .y .fits) (omega arith))
 
 pub lay-sum-spec : {M : Type 1} → statement M
 lay-sum-spec =
