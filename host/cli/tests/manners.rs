@@ -89,7 +89,8 @@ fn a_file_name_may_be_any_bytes() {
         Json::read(&run(&["explain", "--json", "--"], &["0"]));
         fs::remove_file(&path).unwrap();
         // As the value of an option it needs no dashes before it.
-        run(&[&["case"], &P1[..], &["--out"]].concat(), &[]);
+        let written = run(&[&["case"], &P1[..], &["--out"]].concat(), &[]);
+        assert!(written.lines().last().unwrap().starts_with("written  "), "{written}");
         assert_eq!(fs::read(&path).unwrap(), p1().encode());
         run(&["work-out", "--case"], &[]);
         let joined = |option: &str| OsStr::from_bytes(&[option.as_bytes(), name.as_bytes()].concat()).to_os_string();
