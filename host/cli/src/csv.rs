@@ -124,7 +124,7 @@ impl<R: BufRead> Rows<R> {
             let place = self.header.iter().position(|column| column == name)?;
             Some(cells[place].clone()).filter(|cell| !cell.is_empty())
         };
-        if filled("").is_some() {
+        if self.header.iter().zip(&cells).any(|(name, cell)| name.is_empty() && !cell.is_empty()) {
             return Err(Fault::Line("a cell stands under a column without a name".to_string()));
         }
         decimal_points(&cells)?;
@@ -139,9 +139,9 @@ impl<R: BufRead> Rows<R> {
 
 /// Where one number has a decimal comma, points in the others may be thousands separators: 1.250 would be taken for 1.25.
 fn decimal_points(cells: &[String]) -> Result<(), Fault> {
-    let digits_and_marks =
-        |cell: &&String| cell.contains(',') && cell.bytes().all(|byte| b"0123456789.,".contains(&byte));
-    match cells.iter().find(digits_and_marks) {
+    let number_with_comma =
+        |cell: &&String| cell.contains(',') && cell.bytes().all(|byte| b"0123456789.,+-eE".contains(&byte));
+    match cells.iter().find(number_with_comma) {
         Some(cell) => {
             Err(Fault::File(format!("{cell} has a decimal comma: write points, and no thousands separators")))
         }

@@ -1,7 +1,7 @@
 //! Archive files through the command: filing, reading, refusals, damaged files.
 
 mod common;
-use common::{archive_of, with, Place, P1};
+use common::{archive_of, p1, with, Place, P1};
 use csorvelin_differential::{cases, random::Random};
 use csorvelin_model::archive;
 use csorvelin_model::case::Case;
@@ -84,12 +84,6 @@ fn a_record_whose_figures_were_changed_is_found_by_explain() {
     for words in [&["show", "archive", "0"][..], &["list", "archive"], &["worst", "archive", "1"]] {
         place.run(words).ends(0);
     }
-}
-
-/// The case of P1.
-fn p1() -> Case {
-    let patterns = [100f64, 0., 1., 0., 0., 0.].map(f64::to_bits);
-    Case { kind: 4, row: 1, route: 1, user: 0, count: 0, dossier: 7, patterns }
 }
 
 /// How a record's sheet ends in JSON: its number, what it holds for the STP, and the check.

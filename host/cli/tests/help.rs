@@ -93,6 +93,8 @@ fn the_manual_page_is_laid_out_without_a_warning() {
     let place = Place::new("help_man");
     let page = place.run(&["help", "man"]).ends(0).out.clone();
     assert!(page.starts_with(".TH CSORVELIN 1 "), "{page}");
+    // A bare dash would be printed as a hyphen, which no command takes.
+    assert!(!page.replace("\\-", "").contains('-'), "{page}");
     place.write("csorvelin.1", page.as_bytes());
     let mut command = if installed("man") && installed("groff") {
         let mut command = Command::new("man");

@@ -2,7 +2,7 @@
 
 mod common;
 use common::json::Json;
-use common::{archive_with, csv, of_every_row, p1, with, words, Place, Ran};
+use common::{archive_with, csv, is_progress, of_every_row, on_terminal, p1, with, words, Place, Ran};
 use csorvelin_differential::{cases, random::Random};
 use csorvelin_model::archive;
 use csorvelin_model::case::{Case, QUANTITIES};
@@ -407,4 +407,39 @@ fn a_case_file_of_any_name_is_taken() {
     // A name is shown on one line.
     let ran = place.run(&["import", "archive", "two\nlines"]);
     assert!(ran.ends(65).err.starts_with("two\\nlines: refused 22: ") && ran.err.lines().count() == 1, "{}", ran.err);
+}
+
+/// How many passed, and what was noted, as JSON too.
+#[test]
+fn notes_as_json() {
+    let place = Place::new("import_notes");
+    place.archive("archive");
+    place.write("cases.csv", b"kind,row,dossier,a,b,c\n4,1,1,1,,1\n4,1,2,1,0,1\n9,1,3,1,0,1\n4,1,4,,,1\n");
+    let notes = [
+        "cases.csv:2: note: not given: b (fraction disintegrated); counts as 0",
+        "cases.csv:5: note: not given: a (EU tonnage), b (fraction disintegrated); counts as 0",
+    ];
+    for (options, filed) in [(&[][..], "0"), (&["--keep-going", "--dry-run"], "3"), (&["--keep-going"], "3")] {
+        let ran = place.run(&words(&["import", "archive", "cases.csv", "--json", "--blank-as-zero"], options));
+        let answer = Json::read(&ran.ends(65).out);
+        assert_eq!((answer.text(&["passed"]), answer.text(&["filed"])), ("3", filed));
+        assert_eq!(answer.list(&["notes"]), notes.map(|note| Json::Text(note.to_string())));
+        assert_eq!(ran.err, notes.map(|note| format!("{note}\n")).concat());
+    }
+    assert_eq!(place.read("archive").len(), 16 + 3 * 96);
+}
+
+/// A long import says on a terminal how far it has come, and nowhere else.
+#[test]
+fn progress_is_for_a_terminal() {
+    let place = Place::new("import_progress");
+    place.archive("archive");
+    let lines: String = (1..=40_000).map(|dossier| format!("4,1,{dossier},100,0,1\n")).collect();
+    place.write("cases.csv", format!("kind,row,dossier,a,b,c\n{lines}").as_bytes());
+    let piped = place.run(&["import", "archive", "cases.csv", "--dry-run"]);
+    assert_eq!(piped.ends(0).err, "");
+    if let Some(ran) = on_terminal(&place, "\"$CSORVELIN\" import archive cases.csv --dry-run >out") {
+        is_progress(&ran.ends(0).out, "judged", 40_000, "cases");
+        assert_eq!(place.read("out"), piped.out.as_bytes());
+    }
 }

@@ -186,9 +186,35 @@ fn a_decimal_comma_refuses_the_whole_file() {
     let ran = place.run(&["import", "archive", "cases.csv", "--keep-going"]);
     let said = "cases.csv:4: 950,5 has a decimal comma: write points, and no thousands separators; nothing of this file is taken\n";
     assert_eq!((ran.ends(65).err.as_str(), place.read("archive")), (said, before));
+    // As a spreadsheet writes it, in quotes, and in a figure too.
+    for comma in ["1.250,5", "1,25E+06", "-0,5", "1,5e3"] {
+        for line in [format!("4;1;23;{comma};0;1;"), format!("4;1;23;1;0;1;\"{comma}\"")] {
+            place.write("comma.csv", format!("kind;row;dossier;a;b;c;stp\n4;1;21;1.250;0;1;\n{line}\n").as_bytes());
+            let ran = place.run(&["import", "archive", "comma.csv", "--keep-going"]);
+            assert!(ran.ends(65).err.starts_with(&format!("comma.csv:3: {comma} has a decimal comma")), "{}", ran.err);
+            assert_eq!(ran.out, "2 offered, 1 refused, none filed; archive is as it was\n");
+        }
+    }
     // Another file is judged by itself.
     let ran = place.run(&["import", "archive", "cases.csv", "other.csv", "--keep-going"]);
     assert_eq!(ran.ends(65).out, "4 offered, 1 refused, 1 filed in archive as record 0\n");
+}
+
+/// As a spreadsheet leaves them: columns without a name behind the others, and lines of separators.
+#[test]
+fn columns_without_a_name_hold_nothing() {
+    let place = Place::new("csv_nameless");
+    let text = b"kind,row,dossier,a,b,c,,\n,,,,,,,\n4,1,7,100,0,1,,\n,,,,,,,\n";
+    assert_eq!(imported(&place, text), archive_with(&[p1()]));
+    assert_eq!(imported(&place, b",kind,row,,dossier,a,b,c\n,4,1,,7,100,0,1\n"), archive_with(&[p1()]));
+    // Whatever stands there is not passed over, whichever of them it is.
+    let before = place.read("archive");
+    for line in ["4,1,8,100,0,1,x,", "4,1,8,100,0,1,,x", "4,1,8,1,5,0,1,"] {
+        place.write("cases.csv", format!("kind,row,dossier,a,b,c,,\n{line}\n").as_bytes());
+        let ran = place.run(&["import", "archive", "cases.csv", "--keep-going"]);
+        assert_eq!(ran.ends(65).err, "cases.csv:2: a cell stands under a column without a name\n");
+        assert_eq!(place.read("archive"), before);
+    }
 }
 
 #[test]

@@ -2,7 +2,7 @@
 
 mod common;
 use common::json::Json;
-use common::{archive_of, archive_of_records, archive_with, copies, of_every_row, p1, program, record, words, Place};
+use common::{archive_of, archive_of_records, archive_with, copies, of_every_row, p1, record, words, Place};
 use csorvelin_differential::{cases, random::Random};
 use csorvelin_model::archive::figures_of;
 use csorvelin_model::binary64;
@@ -10,7 +10,7 @@ use csorvelin_model::case::{little_endian, Case, QUANTITIES};
 use csorvelin_model::listing::printed;
 use std::cmp::Reverse;
 use std::io::Read;
-use std::process::{Command, Stdio};
+use std::process::Stdio;
 
 const COMPARTMENTS: [&str; 4] = ["stp", "surface", "air", "soil"];
 
@@ -254,21 +254,21 @@ fn records_as_json() {
 
 /// The end of what a command prints, and how much it prints, in no more memory than this many kilobytes.
 fn end_within(place: &Place, kilobytes: u32, words: &[&str]) -> (String, usize) {
-    let mut command = Command::new("sh");
-    command.args(["-c", &format!("ulimit -v {kilobytes} && exec \"$0\" \"$@\"")]).arg(program()).args(words);
-    let mut child = command.current_dir(&place.directory).stdin(Stdio::null()).stdout(Stdio::piped()).spawn().unwrap();
+    let mut command = place.command_after(&format!("ulimit -v {kilobytes}"), words);
+    let mut child = command.stdout(Stdio::piped()).spawn().unwrap();
     let mut from = child.stdout.take().unwrap();
     let (mut piece, mut end, mut length) = (vec![0; 1 << 16], vec![], 0);
     loop {
         let read = from.read(&mut piece).unwrap();
-        if read == 0 {
-            assert!(child.wait().unwrap().success(), "{words:?}");
-            return (String::from_utf8(end).unwrap(), length);
-        }
         length += read;
         end.extend(&piece[..read]);
         end.drain(..end.len().saturating_sub(2000));
+        if read == 0 {
+            break;
+        }
     }
+    assert!(child.wait().unwrap().success(), "{words:?}");
+    (String::from_utf8(end).unwrap(), length)
 }
 
 /// An archive of 19 MB is listed within 100 MB, though its JSON has more.

@@ -89,7 +89,8 @@ fn a_file_name_may_be_any_bytes() {
         Json::read(&run(&["explain", "--json", "--"], &["0"]));
         fs::remove_file(&path).unwrap();
         // As the value of an option it needs no dashes before it.
-        run(&[&["case"], &P1[..], &["--out"]].concat(), &[]);
+        let written = run(&[&["case"], &P1[..], &["--out"]].concat(), &[]);
+        assert!(written.lines().last().unwrap().starts_with("written  "), "{written}");
         assert_eq!(fs::read(&path).unwrap(), p1().encode());
         run(&["work-out", "--case"], &[]);
         let joined = |option: &str| OsStr::from_bytes(&[option.as_bytes(), name.as_bytes()].concat()).to_os_string();
@@ -293,4 +294,49 @@ fn words_behind_two_dashes_are_places() {
     // Standard input is a dash, there too.
     place.run_on(&archive_with(&[p1()]), &["verify", "--", "-"]).ends(0);
     assert_eq!(place.names(), ["--help", "--json"]);
+}
+
+/// Whatever the command answers, with --json it is one line of JSON on standard output.
+#[test]
+fn every_answer_as_json_is_well_formed() {
+    let place = Place::new("json_answers");
+    place.write("cases.csv", csv(&[Case { dossier: 8, ..p1() }, p1()]).as_bytes());
+    place.write("damaged", b"no archive");
+    let answers: [(&[&str], i32); 24] = [
+        (&["new", "archive"], 0),
+        (&["file", "archive", "kind=4", "row=1", "dossier=7", "a=0.71", "b=0", "c=1"], 0),
+        (&["import", "archive", "cases.csv", "--keep-going"], 65),
+        (&["work-out", "kind=6", "row=1", "dossier=7", "a=5e-324", "b=1"], 0),
+        (&["explain", "kind=2", "row=7", "dossier=7", "a=1", "c=1"], 0),
+        (&["explain", "archive", "1"], 0),
+        (&["case", "kind=5", "T=1", "dossier=7", "a=1", "b=1", "c=1", "d=0", "e=0", "--out", "case"], 0),
+        (&["show", "archive", "0"], 0),
+        (&["list", "archive"], 0),
+        (&["worst", "archive", "soil"], 0),
+        (&["verify", "archive"], 0),
+        (&["defaults"], 0),
+        (&["help"], 0),
+        (&["help", "kinds"], 0),
+        (&["help", "man"], 0),
+        (&["help", "completion"], 0),
+        (&["--version"], 0),
+        (&["work-out", "kind=9"], 2),
+        (&["list", "damaged"], 21),
+        (&["show", "archive", "9"], 24),
+        (&["worst", "archive", "9"], 12),
+        (&["new", "archive"], 73),
+        (&["show", "missing \"\\\x07", "0"], 66),
+        (&["work-out", "kind=4", "a=\"\\\x01\n\u{7f}ä"], 64),
+    ];
+    for (words, status) in answers {
+        let ran = place.run(&[words, &["--json"]].concat());
+        assert!(Json::read(&ran.ends(status).out).keys().len() > 0 && ran.out.lines().count() == 1, "{words:?}");
+        assert_eq!(ran.err, "", "{words:?}");
+    }
+    let ran = place.run(&["work-out", "kind=4", "a=\"\\\x01\n\u{7f}ä", "--json"]);
+    assert!(
+        Json::read(&ran.out).text(&["message"]).starts_with("field a: '\"\\\x01\n\u{7f}ä' is neither"),
+        "{}",
+        ran.out
+    );
 }

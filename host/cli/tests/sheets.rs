@@ -312,6 +312,8 @@ fn sheets_as_json() {
         for (compartment, emission) in emissions.iter().enumerate() {
             assert_eq!(fraction(emission.text(&["kilograms"])), sheet.kilograms(compartment));
             assert_eq!(fraction(emission.text(&["micrograms"])), sheet.micrograms(compartment));
+            assert!(is_decimal_of(emission.text(&["kilograms_decimal"]), &sheet.kilograms(compartment)));
+            assert!(is_decimal_of(emission.text(&["micrograms_decimal"]), &sheet.micrograms(compartment)));
             assert_eq!(emission.text(&["figure"]), sheet.figures()[compartment].to_string());
             let terms = emission.list(&["terms"]);
             assert_eq!(terms.len(), sheet.emissions[compartment].len());

@@ -2,13 +2,13 @@
 
 mod common;
 use common::json::Json;
-use common::{archive_of, archive_of_records, copies, installed, of_every_row, p1, program, record, Place, Ran};
+use common::{archive_of, archive_of_records, copies, is_progress, of_every_row, on_terminal, p1, record, Place};
 use csorvelin_differential::{cases, random::Random};
 use csorvelin_model::archive::{self, figures_of};
 use csorvelin_model::case::{same_filing, Case};
 use csorvelin_model::equations::Sheet;
 use csorvelin_model::ranges;
-use std::process::{Command, Stdio};
+use std::process::Command;
 
 /// What is wrong with the records of an archive, by the model: the number of each, and the words for it.
 fn faults(bytes: &[u8]) -> Vec<(usize, String)> {
@@ -89,23 +89,11 @@ fn verified(place: &Place, bytes: &[u8]) -> Vec<usize> {
 #[test]
 fn sound_archives_agree() {
     let place = Place::new("verify_sound");
-    for n in [0, 1, 2, 100, 700] {
+    for n in [0, 1, 2, 3, 100, 700] {
         assert_eq!(verified(&place, &archive_of(n, &mut Random::new(431))), []);
     }
     let records: Vec<Vec<u8>> = of_every_row(5, &mut Random::new(432)).iter().map(record).collect();
     assert_eq!(verified(&place, &archive_of_records(&records)), []);
-}
-
-/// The digest is that of the bytes, of lengths that end in every place of a block.
-#[test]
-fn the_digest_is_that_of_another_program() {
-    if !installed("sha256sum") {
-        return;
-    }
-    let place = Place::new("verify_digest");
-    for n in 0..8 {
-        verified(&place, &archive_of(n, &mut Random::new(433)));
-    }
 }
 
 #[test]
@@ -253,22 +241,10 @@ fn progress_is_for_a_terminal() {
     place.write("archive", &copies(&case, 120_000));
     let piped = place.run(&["verify", "archive"]);
     assert_eq!(piped.ends(0).err, "");
-    // The one of util-linux; others take other words.
-    let version = Command::new("script").arg("--version").stdin(Stdio::null()).output();
-    if !version.is_ok_and(|output| String::from_utf8_lossy(&output.stdout).contains("util-linux")) {
-        return;
+    if let Some(ran) = on_terminal(&place, "\"$CSORVELIN\" verify archive >out") {
+        is_progress(&ran.ends(0).out, "verified", 120_000, "records");
+        assert_eq!(place.read("out"), piped.out.as_bytes());
     }
-    let mut command = Command::new("script");
-    let line = "\"$CSORVELIN\" verify archive >out";
-    command.args(["--quiet", "--return", "--command", line, "/dev/null"]).current_dir(&place.directory);
-    let ran = Ran::of(command.env("CSORVELIN", program()).stdin(Stdio::null()).output().unwrap());
-    let (lines, wiped) = ran.ends(0).out.split_at(ran.out.rfind('\r').unwrap());
-    assert_eq!(wiped, "\r\u{1b}[K");
-    for line in lines.split('\r').skip(1) {
-        let number = line.strip_prefix("verified ").and_then(|line| line.strip_suffix(" of 120000 records"));
-        assert!(number.is_some_and(|number| number.parse::<u64>().unwrap() < 120_000), "{line}");
-    }
-    assert_eq!(place.read("out"), piped.out.as_bytes());
 }
 
 /// An archive that the trailer makes sound, but whose records are nothing.

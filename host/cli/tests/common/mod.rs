@@ -324,6 +324,28 @@ pub fn words(first: &[&str], further: &[impl AsRef<str>]) -> Vec<String> {
     first.chain(further.iter().map(|word| word.as_ref().to_string())).collect()
 }
 
+/// What comes to a terminal from a shell's line, where the program `script` is that of util-linux; others take other words.
+/// The line names the command as "$CSORVELIN".
+pub fn on_terminal(place: &Place, line: &str) -> Option<Ran> {
+    let version = Command::new("script").arg("--version").stdin(Stdio::null()).output().ok()?;
+    String::from_utf8_lossy(&version.stdout).contains("util-linux").then(|| {
+        let mut command = Command::new("script");
+        command.args(["--quiet", "--return", "--command", line, "/dev/null"]).current_dir(&place.directory);
+        Ran::of(command.env("CSORVELIN", program()).stdin(Stdio::null()).output().unwrap())
+    })
+}
+
+/// Checks what was shown of a progress: lines over one another, at least one, and the last wiped.
+pub fn is_progress(shown: &str, done: &str, total: u64, what: &str) {
+    let (lines, wiped) = shown.split_at(shown.rfind('\r').expect("a progress"));
+    assert_eq!(wiped, "\r\u{1b}[K");
+    for line in lines.split('\r').skip(1) {
+        let number =
+            line.strip_prefix(&format!("{done} ")).and_then(|line| line.strip_suffix(&format!(" of {total} {what}")));
+        assert!(number.is_some_and(|number| number.parse::<u64>().unwrap() < total), "{line}");
+    }
+}
+
 /// Whether a program of the system can be run.
 pub fn installed(program: &str) -> bool {
     let mut command = Command::new(program);
