@@ -29,10 +29,10 @@ rows-exactly k row h l = (
       let of : (m : ℕ) → k ≡ m → within (kindAt m .rows) row ≡ true = (λ m q. subst (λ (n : ℕ). within (kindAt n .rows) row ≡ true) q w) in
       record {
         city = λ q. city-rows k row q w;
-        sanitary = λ q. in-range (0 to 1) row (of 4 q) .1;
+        sanitary = λ q. in-range (kindAt 4 .rows) row (of 4 q) .1;
         formulation = λ q. only-zero row (of 5 q);
-        hygiene = λ q. in-range (0 to 5) row (of 6 q) .1;
-        toilets = λ q. in-range (0 to 1) row (of 7 q) .1;
+        hygiene = λ q. in-range (kindAt 6 .rows) row (of 6 q) .1;
+        toilets = λ q. in-range (kindAt 7 .rows) row (of 7 q) .1;
       },
   λ r. passes _ (allowed k h l r),
 )
@@ -40,13 +40,13 @@ rows-exactly k row h l = (
     allowed : (k : ℕ) → 1 ≤ k → k ≤ 7 → Rows k row → within (kindAt k .rows) row ≡ true
     allowed =
         each-kind (λ k. Rows k row → within (kindAt k .rows) row ≡ true)
-        (λ r. then-within (0 to 7) row (omega arith) (r .city (omega arith)))
-        (λ r. then-within (0 to 7) row (omega arith) (r .city (omega arith)))
-        (λ r. then-within (0 to 7) row (omega arith) (r .city (omega arith)))
-        (λ r. then-within (0 to 1) row (omega arith) (r .sanitary refl))
-        (λ r. let z = r .formulation refl in then-within (0 to 0) row (omega arith) (omega arith))
-        (λ r. then-within (0 to 5) row (omega arith) (r .hygiene refl))
-        (λ r. then-within (0 to 1) row (omega arith) (r .toilets refl))
+        (λ r. then-within (kindAt 1 .rows) row (omega arith) (r .city (omega arith)))
+        (λ r. then-within (kindAt 2 .rows) row (omega arith) (r .city (omega arith)))
+        (λ r. then-within (kindAt 3 .rows) row (omega arith) (r .city (omega arith)))
+        (λ r. then-within (kindAt 4 .rows) row (omega arith) (r .sanitary refl))
+        (λ r. let z = r .formulation refl in then-within (kindAt 5 .rows) row (omega arith) (omega arith))
+        (λ r. then-within (kindAt 6 .rows) row (omega arith) (r .hygiene refl))
+        (λ r. then-within (kindAt 7 .rows) row (omega arith) (r .toilets refl))
 
 -- ── routes
 
@@ -117,7 +117,7 @@ users-exactly k user h l = (
   λ e.
       let w : within (kindAt k .users) user ≡ true = not-false _ e in
       record {
-        application = λ q. in-range (1 to 2) user (subst (λ (n : ℕ). within (kindAt n .users) user ≡ true) q w);
+        application = λ q. in-range (kindAt 3 .users) user (subst (λ (n : ℕ). within (kindAt n .users) user ≡ true) q w);
         others = λ q. other-users k user q w;
       },
   λ u. passes _ (allowed k h l u),
@@ -130,7 +130,7 @@ users-exactly k user h l = (
     allowed =
         each-kind (λ k. Users k user → within (kindAt k .users) user ≡ true)
         (none-but 1 (λ q. omega arith)) (none-but 2 (λ q. omega arith))
-        (λ u. let r = u .application refl in then-within (1 to 2) user (r .0) (r .1))
+        (λ u. let r = u .application refl in then-within (kindAt 3 .users) user (r .0) (r .1))
         (none-but 4 (λ q. omega arith)) (none-but 5 (λ q. omega arith)) (none-but 6 (λ q. omega arith)) (none-but 7 (λ q. omega arith))
 
 -- ── what depends on the row: with row 0, and with the paper's
@@ -156,11 +156,11 @@ counts-exactly k row t h l = (
       let of : (m : ℕ) → k ≡ m → row ≡ 0 → within (kindAt m .ownCount) t ≡ true = (λ m q z. subst (λ (n : ℕ). within (kindAt n .ownCount) t ≡ true) q (w .0 z)) in
       record {
         life = λ q z. city-life k t q (w .0 z);
-        houses = λ q z. in-range (1 to 100) t (of 3 q z);
-        sanitary-days = λ q z. in-range (1 to 366) t (of 4 q z);
-        formulation-days = λ q z. in-range (1 to 366) t (of 5 q z);
+        houses = λ q z. in-range (kindAt 3 .ownCount) t (of 3 q z);
+        sanitary-days = λ q z. in-range (kindAt 4 .ownCount) t (of 4 q z);
+        formulation-days = λ q z. in-range (kindAt 5 .ownCount) t (of 5 q z);
         hygiene = λ q z. only-zero t (of 6 q z);
-        wagons = λ q z. in-range (1 to 100) t (of 7 q z);
+        wagons = λ q z. in-range (kindAt 7 .ownCount) t (of 7 q z);
         paper-rows = λ z. paper-rows-count k t (w .1 z);
       },
   λ c. passes _ (join (λ r. within r t ≡ true) row (kindAt k .ownCount) (kindAt k .rowCount) (λ z. own k h l z c) (λ n. paper k h l (c .paper-rows n))),
@@ -169,13 +169,13 @@ counts-exactly k row t h l = (
     own : (k : ℕ) → 1 ≤ k → k ≤ 7 → row ≡ 0 → Counts k row t → within (kindAt k .ownCount) t ≡ true
     own =
         each-kind (λ k. row ≡ 0 → Counts k row t → within (kindAt k .ownCount) t ≡ true)
-        (λ z c. let r = c .life (omega arith) z in then-within (31 to 36500) t (r .0) (r .1))
-        (λ z c. let r = c .life (omega arith) z in then-within (31 to 36500) t (r .0) (r .1))
-        (λ z c. let r = c .houses refl z in then-within (1 to 100) t (r .0) (r .1))
-        (λ z c. let r = c .sanitary-days refl z in then-within (1 to 366) t (r .0) (r .1))
-        (λ z c. let r = c .formulation-days refl z in then-within (1 to 366) t (r .0) (r .1))
-        (λ z c. let r = c .hygiene refl z in then-within (0 to 0) t (omega arith) (omega arith))
-        (λ z c. let r = c .wagons refl z in then-within (1 to 100) t (r .0) (r .1))
+        (λ z c. let r = c .life (omega arith) z in then-within (kindAt 1 .ownCount) t (r .0) (r .1))
+        (λ z c. let r = c .life (omega arith) z in then-within (kindAt 2 .ownCount) t (r .0) (r .1))
+        (λ z c. let r = c .houses refl z in then-within (kindAt 3 .ownCount) t (r .0) (r .1))
+        (λ z c. let r = c .sanitary-days refl z in then-within (kindAt 4 .ownCount) t (r .0) (r .1))
+        (λ z c. let r = c .formulation-days refl z in then-within (kindAt 5 .ownCount) t (r .0) (r .1))
+        (λ z c. let r = c .hygiene refl z in then-within (kindAt 6 .ownCount) t (omega arith) (omega arith))
+        (λ z c. let r = c .wagons refl z in then-within (kindAt 7 .ownCount) t (r .0) (r .1))
 
     none-there : t ≡ 0 → within (0 to 0) t ≡ true
     none-there z = then-within (0 to 0) t (omega arith) (omega arith)

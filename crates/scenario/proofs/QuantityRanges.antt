@@ -2,15 +2,14 @@
 --   numbers-exactly, quantities-exactly, sum-exactly    8; 9 and 10; 11
 -- A pattern's exact value and its order are in crate binary64.
 use mathlib.Core.Path.{_≡_, refl, subst}
-use mathlib.Core.Bool.{Bool, true, false, not}
+use mathlib.Core.Bool.{Bool, true, false}
 use Prim.Native.Nat.{ℕ, zero, suc, _*_, _≤_, _<_}
 use native.Mathlib.Omega.{arith}
 use lib.Dec.{leb, eqb}
 use lib.ListN.{getD}
-use borrow.Author.Tests.{not-true, not-false, leb-true, le-leb, eqb-true, eqb-false, eq-eqb, ne-eqb}
-use Rattle.binary64.specs.Pattern.{signOf, exponentOf, isUnsignedFinite}
+use borrow.Author.Tests.{not-false, leb-true, le-leb, eqb-true, eq-eqb}
 use Rattle.binary64.specs.Quantity.{whole, one}
-use Rattle.binary64.proofs.Bools.{both}
+use Rattle.binary64.proofs.Exact.{unsigned-finite-exactly}
 use Rattle.scenario.specs.Case.{Listing, unlisted, upTo, kinds, kindAt, listingsAt, listingAt, notNumber, anyNotNumber, notZeroBytes, anyNotZeroBytes, overLimit, anyOverLimit, sumWithin, sumOver}
 use Rattle.scenario.specs.Ranges.{Number, UpTo, ZeroBytes, Quantities, SumUpTo1}
 use Rattle.scenario.proofs.KindTable.{each-kind}
@@ -19,23 +18,11 @@ use Rattle.scenario.proofs.FieldRanges.{passes, split, join}
 
 -- ── numbers
 
-finite-then : (p : ℕ) → isUnsignedFinite p ≡ true → Number p
-unfolding isUnsignedFinite
-finite-then p e =
-    let h = both (eqb (signOf p) 0) (not (eqb (exponentOf p) 2047)) e in
-    let s : signOf p ≡ 0 = eqb-true (signOf p) 0 (h .0) in
-    let x : exponentOf p ≡ 2047 → ⊥ = eqb-false (exponentOf p) 2047 (not-true (eqb (exponentOf p) 2047) (h .1)) in
-    omega arith
-
-then-finite : (p : ℕ) → Number p → isUnsignedFinite p ≡ true
-unfolding isUnsignedFinite
-then-finite p h = rw (eq-eqb (signOf p) 0 (omega arith), ne-eqb (exponentOf p) 2047 (λ (x : exponentOf p ≡ 2047). omega arith))
-
 pub numbers-exactly : (p : ℕ → ℕ) → (anyNotNumber p ≡ false → (i : ℕ) → i < 6 → Number (p i)) × (((i : ℕ) → i < 6 → Number (p i)) → anyNotNumber p ≡ false)
 unfolding notNumber
 numbers-exactly p = (
-  λ e i h. finite-then (p i) (each-finite p e i h),
-  λ n. six-then (λ i. notNumber (p i)) (λ i h. passes _ (then-finite (p i) (n i h))),
+  λ e i h. unsigned-finite-exactly (p i) .0 (each-finite p e i h),
+  λ n. six-then (λ i. notNumber (p i)) (λ i h. passes _ (unsigned-finite-exactly (p i) .1 (n i h))),
 )
 
 -- ── quantities

@@ -1,6 +1,6 @@
 -- The ranges of a case in plain numbers: its fields beside the numbers of paper 01, kind by kind, in the order of refusals 1 to 11.
--- A case is accepted exactly when it is within them (`accepted-exactly`). Nothing of the table `kinds` and of the tests in Case stands here,
--- so that a number which is wrong in both of those and in the program is refused.
+-- A case is accepted exactly when it is within them (`accepted-exactly`). Of Case only the fields are used, not the table `kinds` and no test,
+-- so that a number which is wrong there and in the program alike is refused.
 -- k is the kind, t the count T, and a to f are the patterns of the quantities.
 use mathlib.Core.Path.{_≡_}
 use mathlib.Core.Bool.{true}
@@ -43,7 +43,7 @@ pub record Counts (k row t : ℕ) : Type 0 where
 
 -- ── the quantities
 
--- no sign bit, and an exponent field below 2047
+-- no sign bit, and an exponent field below 2047: less than the pattern of infinity
 abbrev pub Number : ℕ → Type 0
 Number p = p < 2047 * 2 ^ 52
 
