@@ -7,7 +7,7 @@ use native.Mathlib.Omega.{arith}
 use lib.Dec.{eqb}
 use lib.ListN.{length, getD, length-map}
 use Rattle.scenario.specs.Case.{routeOf, refusalOf}
-use Rattle.scenario.proofs.Passed.{passed}
+use Rattle.scenario.proofs.Ranges.{accepted-exactly}
 use Rattle.product.specs.Ratio.{Ratio, roundedUp}
 use Rattle.emission.specs.Figures.{exactValues, figuresOf}
 use Rattle.emission.proofs.Accepted.{figures-exact}
@@ -16,7 +16,7 @@ use Rattle.archive.specs.Archive.{lineFor}
 use Rattle.records.proofs.RecordLaws.{Fit, Sized, Storable}
 
 pub case-size : (c : List ℕ) → refusalOf c ≡ 0 → length c ≡ 64
-case-size c e = passed c e .sixty-four
+case-size c e = accepted-exactly c .0 e .sixty-four
 
 four-either : (t : Bool) (p q : List Ratio) → length p ≡ 4 → length q ≡ 4 → length (cond t p q) ≡ 4
 four-either true p q e f = e

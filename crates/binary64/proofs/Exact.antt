@@ -1,5 +1,5 @@
 -- Laws of a pattern's exact value.
--- `unsigned-finite-lt`: which patterns have one. `exact-value`: `whole` over 2 ^ 1074 is the value that the library of IEEE 754 gives the pattern.
+-- `unsigned-finite-exactly`: which patterns have one, in plain numbers. `exact-value`: `whole` over 2 ^ 1074 is the value that the library of IEEE 754 gives the pattern.
 -- `not-nan-bits`, `not-nan`: none is a NaN. `pattern-back`: the f64 of a pattern has that pattern. `whole-zero`.
 -- `whole-parts`, `significand-small`, `shift-small`: significand and shift. `zero-parts`, `subnormal-parts`, `normal-parts`: what these are, by cases; `parts-known`: what follows.
 -- The order of values is in `Order`.
@@ -18,13 +18,16 @@ use Rattle.binary64.specs.Quantity.{wholeAt, whole, significandOf, shift
 use Rattle.binary64.proofs.Bools.{both}
 
 -- the patterns below that of infinity
-pub unsigned-finite-lt : (b : ℕ) → b < 2 ^ 64 → isUnsignedFinite b ≡ true → b < 2047 * 2 ^ 52
+pub unsigned-finite-exactly : (b : ℕ) → (isUnsignedFinite b ≡ true → b < 2047 * 2 ^ 52) × (b < 2047 * 2 ^ 52 → isUnsignedFinite b ≡ true)
 unfolding isUnsignedFinite
-unsigned-finite-lt b h e =
-    let p = both (eqb (signOf b) 0) (not (eqb (exponentOf b) 2047)) e in
-    let s : signOf b ≡ 0 = eqb-true (signOf b) 0 (p .0) in
-    let x : exponentOf b ≡ 2047 → ⊥ = eqb-false (exponentOf b) 2047 (not-true (eqb (exponentOf b) 2047) (p .1)) in
-    omega arith
+unsigned-finite-exactly b = (
+  λ e.
+      let p = both (eqb (signOf b) 0) (not (eqb (exponentOf b) 2047)) e in
+      let s : signOf b ≡ 0 = eqb-true (signOf b) 0 (p .0) in
+      let x : exponentOf b ≡ 2047 → ⊥ = eqb-false (exponentOf b) 2047 (not-true (eqb (exponentOf b) 2047) (p .1)) in
+      omega arith,
+  λ h. rw (eq-eqb (signOf b) 0 (omega arith), ne-eqb (exponentOf b) 2047 (λ (x : exponentOf b ≡ 2047). omega arith)),
+)
 
 fields : (x t : ℕ) → x < 2047 → HasValue (ofFields binary64 false x t) false (wholeAt x t) (2 ^ 1074)
 unfolding ofFields wholeAt

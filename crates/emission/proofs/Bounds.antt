@@ -4,8 +4,8 @@ use mathlib.Core.Path.{_≡_, refl}
 use Prim.Native.Nat.{ℕ, _≤_}
 use native.Mathlib.Omega.{arith}
 use Rattle.product.specs.Ratio.{_over_}
+use Rattle.equations.specs.RowExamples.{kg}
 use Rattle.emission.specs.Figures.{WithinBounds, margin}
-use Rattle.emission.specs.WorkedExamples.{kg}
 
 pub bounds-of-p1 : (f : ℕ) → (WithinBounds margin (kg 1 13) f → (76923077 ≤ f) × (f ≤ 76923082)) × ((76923077 ≤ f) × (f ≤ 76923082) → WithinBounds margin (kg 1 13) f)
 bounds-of-p1 f = (

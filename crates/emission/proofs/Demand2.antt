@@ -6,6 +6,7 @@
 --   figure-bounds       each is within the bounds: never below, hardly above, zero exactly when the value is zero
 --   zero-iff            the last part by itself
 --   refusal-first, refused-no-figure   demand 1: the refusal is the first condition that holds, and beside one stand zeros
+--   result-exactly      there is none exactly when the case is within the ranges, in plain numbers
 -- That no lower number is 0 is in Positive.
 use mathlib.Core.Path.{_≡_, sym, _∙_}
 use mathlib.Core.List.{List, [], _∷_, map}
@@ -19,6 +20,7 @@ use Rattle.product.specs.Ratio.{Ratio, _over_, roundedUp}
 use Rattle.scenario.specs.Refusal.{IsFirst}
 use Rattle.scenario.specs.Case.{refusals, refusalOf}
 use Rattle.scenario.proofs.Refusals.{refusal-order}
+use Rattle.scenario.proofs.Ranges.{WithinRanges, accepted-exactly}
 use Rattle.emission.specs.Called.{Called}
 use Rattle.emission.specs.Figures.{exactValues, figuresOf, WithinBounds, margin}
 use Rattle.emission.proofs.Accepted.{figures-exact, figure-rounded, figures-refused}
@@ -85,6 +87,9 @@ zero-iff c e i h = let w = figure-bounds c e i h in (w .zero-only, w .zero-then)
 
 pub refusal-first : (c : WorkOutCall) → IsFirst (refusals (bytes c)) (c .result .refusal)
 refusal-first c = refusal-order (bytes c) (c .result .refusal) .0 (sym (c .kept .0))
+
+pub result-exactly : (c : WorkOutCall) → (c .result .refusal ≡ 0 → WithinRanges (bytes c)) × (WithinRanges (bytes c) → c .result .refusal ≡ 0)
+result-exactly c = let e = accepted-exactly (bytes c) in (λ z. e .0 (sym (c .kept .0) ∙ z), λ w. c .kept .0 ∙ e .1 w)
 
 pub refused-no-figure : (c : WorkOutCall) → (c .result .refusal ≡ 0 → ⊥) → c .result .figures ≡ 0 ∷ 0 ∷ 0 ∷ 0 ∷ []
 refused-no-figure c h = c .kept .1 ∙ sym (figures-refused (bytes c) (λ (z : refusalOf (bytes c) ≡ 0). h (c .kept .0 ∙ z)))

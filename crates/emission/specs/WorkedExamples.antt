@@ -1,12 +1,13 @@
 -- The pencil cases P1 to P10 of paper 01 in one table. One theorem covers it (`worked-examples`).
--- A second table of our own has each row of the default tables, and row 0 (`row-examples`).
+-- A second table of our own has the second route (`second-route`); each row of the default tables, and row 0, is in crate equations (`RowExamples`).
 use mathlib.Core.Path.{_≡_}
 use mathlib.Core.List.{List, [], _∷_}
-use Prim.Native.Nat.{ℕ, _*_}
+use Prim.Native.Nat.{ℕ}
 use lib.ListN.{getD}
 use Rattle.scenario.specs.Case.{refusalOf}
 use Rattle.scenario.specs.Builder.{caseBytes, hundred, sixteen, five, unit, three-quarters, half, quarter, eighth, thirty-second, sixty-fourth, two^-9, two^-10, two^-52, two^-54}
 use Rattle.product.specs.Ratio.{Ratio, _over_, Same}
+use Rattle.equations.specs.RowExamples.{kg, nothing}
 use Rattle.emission.specs.Figures.{exactValues}
 
 -- what the paper says of a case: a refusal, or four exact values in micrograms (STP, surface water, air, soil)
@@ -22,16 +23,13 @@ infix 2 _gives_
 abbrev pub _gives_ : List ℕ → Expected → Example
 c gives e = record { case = c; expected = e }
 
--- n over d kilograms, in micrograms
-abbrev pub kg : ℕ → ℕ → Ratio
-kg n d = (n * 1000000000) over d
-
-abbrev pub nothing : Ratio
-nothing = 0 over 1
-
 -- water to the STP, nothing elsewhere
 abbrev pub toPlant : Ratio → Expected
 toPlant w = exact (w ∷ nothing ∷ nothing ∷ nothing ∷ [])
+
+-- water to surface water
+abbrev pub toRain : Ratio → Expected
+toRain w = exact (nothing ∷ w ∷ nothing ∷ nothing ∷ [])
 
 -- kind row route user T dossier a b c d e f
 unfoldable pub examples : List Example
@@ -59,46 +57,15 @@ examples =
     ∷ (caseBytes 4 1 1 0 0 7 hundred unit unit 0 0 0 gives toPlant nothing)
     ∷ []
 
--- Each row's values multiplied by pencil. The paper's own cases have four of the city's and hygiene's twelve rows, and row 0 of kind 5 alone.
-unfoldable pub rowExamples : List Example
-rowExamples =
-    -- kind 1, a 1, b 1/2, c 1: 6000·A/L
-    (caseBytes 1 1 1 0 0 7 unit half unit 0 0 0 gives toPlant (kg 1440 3650))
-    ∷ (caseBytes 1 2 1 0 0 7 unit half unit 0 0 0 gives toPlant (kg 720 3650))
-    ∷ (caseBytes 1 3 1 0 0 7 unit half unit 0 0 0 gives toPlant (kg 750000 1825))
-    ∷ (caseBytes 1 4 1 0 0 7 unit half unit 0 0 0 gives toPlant (kg 33420 1825))
-    ∷ (caseBytes 1 5 1 0 0 7 unit half unit 0 0 0 gives toPlant (kg 750000 9125))
-    ∷ (caseBytes 1 6 1 0 0 7 unit half unit 0 0 0 gives toPlant (kg 1860 1825))
-    ∷ (caseBytes 1 7 1 0 0 7 unit half unit 0 0 0 gives toPlant (kg 210000 9125))
-    -- kind 2, a 1, c 1: 4·A·V·R/L
-    ∷ (caseBytes 2 1 1 0 0 7 unit 0 unit 0 0 0 gives toPlant (kg 76608 365000))
-    ∷ (caseBytes 2 2 1 0 0 7 unit 0 unit 0 0 0 gives toPlant (kg 28224 36500))
-    ∷ (caseBytes 2 3 1 0 0 7 unit 0 unit 0 0 0 gives toPlant (kg 175000 1825))
-    ∷ (caseBytes 2 4 1 0 0 7 unit 0 unit 0 0 0 gives toPlant (kg 7798 1825))
-    ∷ (caseBytes 2 5 1 0 0 7 unit 0 unit 0 0 0 gives toPlant (kg 2000000 9125))
-    ∷ (caseBytes 2 6 1 0 0 7 unit 0 unit 0 0 0 gives toPlant (kg 72912 18250))
-    ∷ (caseBytes 2 7 1 0 0 7 unit 0 unit 0 0 0 gives toPlant (kg 744800 9125))
-    -- kind 3 by professionals, a 1: A·V·R·N times 3 over 100,000
-    ∷ (caseBytes 3 1 1 1 0 7 unit 0 0 0 0 0 gives toPlant (kg 57456 10000000))
-    ∷ (caseBytes 3 2 1 1 0 7 unit 0 0 0 0 0 gives toPlant (kg 21168 1000000))
-    ∷ (caseBytes 3 3 1 1 0 7 unit 0 0 0 0 0 gives toPlant (kg 39375 10000))
-    ∷ (caseBytes 3 4 1 1 0 7 unit 0 0 0 0 0 gives toPlant (kg 175455 1000000))
-    ∷ (caseBytes 3 5 1 1 0 7 unit 0 0 0 0 0 gives toPlant (kg 15 1))
-    ∷ (caseBytes 3 6 1 1 0 7 unit 0 0 0 0 0 gives toPlant (kg 164052 1000000))
-    ∷ (caseBytes 3 7 1 1 0 7 unit 0 0 0 0 0 gives toPlant (kg 5586 1000))
-    -- kind 6, a 1, b 1: 10·H·M·G
-    ∷ (caseBytes 6 1 1 0 0 7 unit unit 0 0 0 0 gives toPlant (kg 852 100))
-    ∷ (caseBytes 6 2 1 0 0 7 unit unit 0 0 0 0 gives toPlant (kg 12 1))
-    ∷ (caseBytes 6 3 1 0 0 7 unit unit 0 0 0 0 gives toPlant (kg 4 1))
-    ∷ (caseBytes 6 4 1 0 0 7 unit unit 0 0 0 0 gives toPlant (kg 16 10))
-    ∷ (caseBytes 6 5 1 0 0 7 unit unit 0 0 0 0 gives toPlant (kg 15 1))
-    -- row 0 of each kind but 5, whose own is P8
-    ∷ (caseBytes 1 0 1 0 100 7 half quarter half sixteen 0 0 gives toPlant (kg 240 1))
-    ∷ (caseBytes 2 0 1 0 100 7 half 0 quarter sixteen five hundred gives toPlant (kg 40 1))
-    ∷ (caseBytes 3 0 1 2 3 7 half 0 0 sixteen five hundred gives toPlant (kg 6 10))
-    ∷ (caseBytes 4 0 1 0 100 7 hundred quarter half 0 0 0 gives toPlant (kg 75 1000))
-    ∷ (caseBytes 6 0 1 0 0 7 half eighth 0 five sixteen quarter gives toPlant (kg 125 10))
-    ∷ (caseBytes 7 0 1 0 3 7 half quarter five three-quarters eighth 0 gives toPlant (kg 390625 10000))
+-- By the separated rain sewer, which none of those takes: kinds 1 to 3, with a row of the paper, P2 among them, and with row 0. All of it goes to surface water.
+unfoldable pub secondRoutes : List Example
+secondRoutes =
+    (caseBytes 1 4 2 0 0 7 five sixteen quarter 0 0 0 gives toRain (kg 116970 1825))
+    ∷ (caseBytes 1 0 2 0 100 7 half eighth quarter sixteen 0 0 gives toRain (kg 100 1))
+    ∷ (caseBytes 2 3 2 0 0 7 sixty-fourth 0 unit 0 0 0 gives toRain (kg 875 584))
+    ∷ (caseBytes 2 0 2 0 40 7 half 0 quarter sixteen five hundred gives toRain (kg 100 1))
+    ∷ (caseBytes 3 3 2 1 0 7 quarter 0 0 0 0 0 gives toRain (kg 393750 400000))
+    ∷ (caseBytes 3 0 2 1 3 7 half 0 0 sixteen five hundred gives toRain (kg 36 100))
     ∷ []
 
 -- of a case: refused as printed, or accepted with the four exact values printed

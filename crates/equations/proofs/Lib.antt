@@ -2,3 +2,4 @@
 pub mod Chains
 pub mod Multiplied
 pub mod Tables
+pub mod Examples

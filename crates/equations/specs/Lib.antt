@@ -4,3 +4,4 @@ pub mod Rows
 pub mod Equations
 pub mod Ranges
 pub mod Constants
+pub mod RowExamples

@@ -54,15 +54,18 @@ pub fn application(active: f64, site: Site, head: Head) -> u64
     requires { ⌜ InRange (Application active site) head ⌝ }
     ensures { λ r. ⌜ r ≡ roundedUp (micrograms (toWater (Application active site) head)) ⌝ }
 {
-    let lost = hundredths(head.user);
     if head.row == 0 {
         let quantities = [site.area, site.volume, site.density, active];
-        return product_up(&quantities, lost * 10000 * (head.count as u64), 1);
+        return product_up(
+            &quantities,
+            hundredths(head.user) * 10000 * (head.count as u64),
+            1,
+        );
     }
     let quantities = [active];
     let constants = application_constants();
     let at = head.row as usize - 1;
-    product_up(&quantities, lost * constants[at], 1)
+    product_up(&quantities, hundredths(head.user) * constants[at], 1)
 }
 
 // 4. Sanitary, tonnage.

@@ -1,13 +1,13 @@
--- Laws of the table of kinds: `by-kind` (what holds of each kind, and of what is none), `no-kind`, `paper-rows-count` (T with the paper's rows),
--- `city-rows` and `city-life` (of the kinds for a city), `other-users`.
--- Of ranges: `in-range`, `only-zero`.
+-- Laws of the table of kinds: `by-kind` (what holds of each kind, and of what is none), `no-kind`, `each-kind` and `each-row` (kinds 1 to 7, rows 0 to 7),
+-- `paper-rows-count` (T with the paper's rows), `city-rows` and `city-life` (of the kinds for a city), `other-users`.
+-- Of ranges: `in-range`, `then-within`, `only-zero`.
 -- Laws of limits are in `Limits`.
 use mathlib.Core.Path.{_≡_, refl}
 use mathlib.Core.Bool.{true}
 use Prim.Native.Nat.{ℕ, zero, suc, _≤_}
 use native.Mathlib.Omega.{arith}
 use lib.Dec.{leb}
-use borrow.Author.Tests.{leb-true}
+use borrow.Author.Tests.{leb-true, le-leb}
 use Rattle.scenario.specs.Case.{Range, within, _to_, kinds, noKind, kindAt}
 use Rattle.binary64.proofs.Bools.{both}
 
@@ -17,6 +17,9 @@ pub in-range : (r : Range) (n : ℕ) → within r n ≡ true → (r .from ≤ n)
 in-range r n h =
     let p = both (leb (r .from) n) (leb n (r .to)) h in
     (leb-true (r .from) n (p .0), leb-true n (r .to) (p .1))
+
+pub then-within : (r : Range) (n : ℕ) → r .from ≤ n → n ≤ r .to → within r n ≡ true
+then-within r n h l = rw (le-leb (r .from) n h, le-leb n (r .to) l)
 
 pub only-zero : (n : ℕ) → within (0 to 0) n ≡ true → n ≡ 0
 only-zero n w = let r = in-range (0 to 0) n w in omega arith
@@ -38,6 +41,21 @@ by-kind P a b c d e f g h (suc (suc (suc (suc (suc zero))))) = e
 by-kind P a b c d e f g h (suc (suc (suc (suc (suc (suc zero)))))) = f
 by-kind P a b c d e f g h (suc (suc (suc (suc (suc (suc (suc zero))))))) = g
 by-kind P a b c d e f g h (suc (suc (suc (suc (suc (suc (suc (suc k)))))))) = h (suc (suc (suc (suc (suc (suc (suc (suc k)))))))) refl
+
+pub each-kind : (P : ℕ → Type 0) → P 1 → P 2 → P 3 → P 4 → P 5 → P 6 → P 7 → (k : ℕ) → 1 ≤ k → k ≤ 7 → P k
+each-kind P a b c d e f g zero h l = absurd (omega arith)
+each-kind P a b c d e f g (suc zero) h l = a
+each-kind P a b c d e f g (suc (suc zero)) h l = b
+each-kind P a b c d e f g (suc (suc (suc zero))) h l = c
+each-kind P a b c d e f g (suc (suc (suc (suc zero)))) h l = d
+each-kind P a b c d e f g (suc (suc (suc (suc (suc zero))))) h l = e
+each-kind P a b c d e f g (suc (suc (suc (suc (suc (suc zero)))))) h l = f
+each-kind P a b c d e f g (suc (suc (suc (suc (suc (suc (suc zero))))))) h l = g
+each-kind P a b c d e f g (suc (suc (suc (suc (suc (suc (suc (suc k)))))))) h l = absurd (omega arith)
+
+pub each-row : (P : ℕ → Type 0) → P 0 → P 1 → P 2 → P 3 → P 4 → P 5 → P 6 → P 7 → (row : ℕ) → row ≤ 7 → P row
+each-row P z a b c d e f g zero l = z
+each-row P z a b c d e f g (suc row) l = each-kind P a b c d e f g (suc row) (omega arith) l
 
 -- what a match on the seven kinds leaves to its last arm
 abbrev OtherThan7 : ℕ → Type 0

@@ -3,7 +3,9 @@ pub mod Refusals
 pub mod KindTable
 pub mod Six
 pub mod Limits
-pub mod Passed
+pub mod FieldRanges
+pub mod QuantityRanges
+pub mod Ranges
 pub mod Sum
 pub mod Edges
 pub mod ReadBack

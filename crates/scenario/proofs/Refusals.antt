@@ -1,8 +1,8 @@
 -- Laws of the first refusal that holds.
 -- Of any list of conditions: `first-of-is-first`, `first-is-first-of`, `first-of-append`, `first-of-some`, `first-of-none` (one list after another),
 -- `none-holds` (where the first is 0).
--- Of a case: `refusal-order`, `refusal-of-length`, `refusal-of-fields`, `decoded-accepted`, `decoded-refused`.
--- What a case without refusal satisfies is in `Passed`.
+-- Of a case: `refusal-order`, `refusal-of-length`, `refusal-of-fields`, `numbers-accepted`, `decoded-accepted`, `decoded-refused`.
+-- What a case without refusal satisfies is in `Ranges`.
 use mathlib.Core.Path.{_≡_, refl, subst}
 use mathlib.Core.Bool.{Bool, true, false, not, cond}
 use mathlib.Core.List.{List, [], _∷_, _++_}
@@ -11,7 +11,7 @@ use lib.Dec.{eqb}
 use lib.ListN.{length, getD}
 use borrow.Author.Tests.{ne-eqb, eqb-false, not-true}
 use Rattle.scenario.specs.Refusal.{Condition, _when_, firstOf, IsFirst, none, here, later, numbered}
-use Rattle.scenario.specs.Case.{kindOf, notSixtyFour, sumOver, headRefusals, quantityRefusals, refusals, refusalOf}
+use Rattle.scenario.specs.Case.{kindOf, patternAt, notSixtyFour, anyNotNumber, sumOver, headRefusals, quantityRefusals, refusals, refusalOf}
 use Rattle.scenario.specs.Patterns.{patternsOf, at}
 use Rattle.scenario.specs.declared.Head.{Head}
 use Rattle.scenario.specs.Decoding.{headOf, caseOf, decoded}
@@ -77,6 +77,10 @@ pub refusal-of-fields : (b : List ℕ) (h : Head) (ps : List ℕ) (n : ℕ) → 
     → n ≡ firstOf (headRefusals (kindOf b) (h .row) (h .route) (h .user) (h .count) (h .dossier) ++ quantityRefusals (kindOf b) (h .row) (at ps)) → refusalOf b ≡ n
 unfolding refusalOf notSixtyFour sumOver headOf
 refusal-of-fields b h ps n l eh ep en = rw (en, eh, ep, l)
+
+pub numbers-accepted : (b : List ℕ) → refusalOf b ≡ 0 → anyNotNumber (patternAt b) ≡ false
+unfolding refusalOf
+numbers-accepted b e = none-holds (refusals b) refl e 7
 
 pub decoded-accepted : (b : List ℕ) → refusalOf b ≡ 0 → decoded b ≡ Accepted (headOf b) (caseOf b)
 unfolding decoded

@@ -1,4 +1,4 @@
--- Laws of a test of the six quantities: `none-of-six`, `six-same`; `each-finite` (what passes refusal 8).
+-- Laws of a test of the six quantities: `none-of-six`, `six-then`, `six-same`; `each-finite` (what passes refusal 8).
 use mathlib.Core.Path.{_≡_}
 use mathlib.Core.Bool.{Bool, true, false, _||_}
 use Prim.Native.Nat.{ℕ, zero, suc, _<_}
@@ -25,6 +25,9 @@ none-of-six p e i h =
     go (suc (suc (suc (suc zero)))) h a b c d e f = e
     go (suc (suc (suc (suc (suc zero))))) h a b c d e f = f
     go (suc (suc (suc (suc (suc (suc i)))))) h a b c d e f = absurd (omega arith)
+
+pub six-then : (p : ℕ → Bool) → ((i : ℕ) → i < 6 → p i ≡ false) → anyOfSix p ≡ false
+six-then p h = rw (h 0 (omega arith), h 1 (omega arith), h 2 (omega arith), h 3 (omega arith), h 4 (omega arith), h 5 (omega arith))
 
 pub six-same : (p q : ℕ → Bool) → ((i : ℕ) → p i ≡ q i) → anyOfSix p ≡ anyOfSix q
 six-same p q h = rw (h 0, h 1, h 2, h 3, h 4, h 5)

@@ -44,7 +44,7 @@ abbrev pub least : ℕ
 least = 1
 
 -- Each listed quantity at its limit, which it may reach, or at an end below, with T and the dossier number at an end of their own.
--- That no more is allowed stands in Passed and in Ranges of crate equations.
+-- What is allowed besides, and that no more is, stands in Ranges.
 abbrev pub ends : List Edge
 ends =
     -- row 0, with the highest T and dossier number; the fractions of kind 5 are at most 1 together

@@ -3,6 +3,6 @@ pub mod Refusal
 pub mod Case
 pub mod Patterns
 pub mod Decoding
-pub mod Passed
+pub mod Ranges
 pub mod Builder
 pub mod Edges

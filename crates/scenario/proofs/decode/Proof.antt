@@ -1,10 +1,9 @@
--- By length: refused with 1, or by the refusal of the fields; with none, what `Passed` says makes the quantities numbers.
+-- By length: refused with 1, or by the refusal of the fields; with none, the quantities are numbers.
 use mathlib.Core.Path.{sym, _∙_}
 use denote.Ref.{now}
 use borrow.Author.Needs.{needs}
 use Rattle.scenario.specs.Decoding.{caseOfPatterns}
-use Rattle.scenario.proofs.Passed.{passed}
-use Rattle.scenario.proofs.Refusals.{refusal-of-length, refusal-of-fields, decoded-accepted, decoded-refused}
+use Rattle.scenario.proofs.Refusals.{refusal-of-length, refusal-of-fields, numbers-accepted, decoded-accepted, decoded-refused}
 use Rattle.scenario.proofs.decode.Statement.{statement}
 use Rattle.scenario.proofs.decode.Tie as tie
 
@@ -31,7 +30,7 @@ case-of-requires c κs =
     let l = h .before .before in
     let b = now (l .before .before .args .case) in
     let e = refusal-of-fields b (h .head-at .result) (p .patterns-at .result) (f .refusal-of .result) (l .if1 .left) (h .head-at .ensures) (p .patterns-at .ensures) (f .refusal-of .ensures) in
-    rw (p .patterns-at .ensures) (passed b (e ∙ c .before .if2 .left) .numbers)
+    rw (p .patterns-at .ensures) (numbers-accepted b (e ∙ c .before .if2 .left))
 
 returns-3 : tie.Need-returns-3
 unfolding caseOfPatterns

@@ -1,0 +1,104 @@
+-- Cases worked by pencil, beside the paper's own P1 to P10 (crate emission): each row of the default tables, and row 0 of each kind.
+-- No two quantities of a case are equal; and with row 0 as with the paper's rows each quantity, T and the user have two values, of which the
+-- second may be one of P1 to P10: whatever were left out of an equation, or taken for another, a case would show it.
+use mathlib.Core.Path.{_≡_}
+use mathlib.Core.List.{List, [], _∷_}
+use Prim.Native.Nat.{ℕ, _*_}
+use Rattle.scenario.specs.Case.{refusalOf}
+use Rattle.scenario.specs.Decoding.{caseOf, headOf}
+use Rattle.scenario.specs.Builder.{caseBytes, thousand, hundred, sixteen, five, unit, three-quarters, half, quarter, eighth, thirty-second}
+use Rattle.product.specs.Ratio.{Ratio, _over_, Same}
+use Rattle.equations.specs.Equations.{toWater, toAir, toSoil, micrograms}
+
+-- n over d kilograms, in micrograms
+abbrev pub kg : ℕ → ℕ → Ratio
+kg n d = (n * 1000000000) over d
+
+abbrev pub nothing : Ratio
+nothing = 0 over 1
+
+-- a case, and its emissions in micrograms
+pub record RowExample : Type 0 where
+  pub case : List ℕ
+  pub water : Ratio
+  pub air : Ratio
+  pub soil : Ratio
+
+-- to water alone
+infix 2 _gives_
+abbrev pub _gives_ : List ℕ → Ratio → RowExample
+b gives w = record { case = b; water = w; air = nothing; soil = nothing }
+
+-- kind row route user T dossier a b c d e f
+unfoldable pub rowExamples : List RowExample
+rowExamples =
+    -- kind 1, a 5, b 16, c 1/4: 21,000·A/L
+    (caseBytes 1 1 1 0 0 7 five sixteen quarter 0 0 0 gives kg 5040 3650)
+    ∷ (caseBytes 1 2 1 0 0 7 five sixteen quarter 0 0 0 gives kg 2520 3650)
+    ∷ (caseBytes 1 3 1 0 0 7 five sixteen quarter 0 0 0 gives kg 2625000 1825)
+    ∷ (caseBytes 1 4 1 0 0 7 five sixteen quarter 0 0 0 gives kg 116970 1825)
+    ∷ (caseBytes 1 5 1 0 0 7 five sixteen quarter 0 0 0 gives kg 2625000 9125)
+    ∷ (caseBytes 1 6 1 0 0 7 five sixteen quarter 0 0 0 gives kg 6510 1825)
+    ∷ (caseBytes 1 7 1 0 0 7 five sixteen quarter 0 0 0 gives kg 735000 9125)
+    -- row 0: 4000·c·d·(a + b)/T
+    ∷ (caseBytes 1 0 1 0 100 7 half eighth quarter sixteen 0 0 gives kg 100 1)
+    ∷ (caseBytes 1 0 1 0 365 7 sixteen five three-quarters half 0 0 gives kg 31500 365)
+    -- kind 2, a 1/4, c 1/8: A·V·R/(8·L)
+    ∷ (caseBytes 2 1 1 0 0 7 quarter 0 eighth 0 0 0 gives kg 19152 2920000)
+    ∷ (caseBytes 2 2 1 0 0 7 quarter 0 eighth 0 0 0 gives kg 7056 292000)
+    ∷ (caseBytes 2 3 1 0 0 7 quarter 0 eighth 0 0 0 gives kg 43750 14600)
+    ∷ (caseBytes 2 4 1 0 0 7 quarter 0 eighth 0 0 0 gives kg 19495 146000)
+    ∷ (caseBytes 2 5 1 0 0 7 quarter 0 eighth 0 0 0 gives kg 500000 73000)
+    ∷ (caseBytes 2 6 1 0 0 7 quarter 0 eighth 0 0 0 gives kg 18228 146000)
+    ∷ (caseBytes 2 7 1 0 0 7 quarter 0 eighth 0 0 0 gives kg 186200 73000)
+    -- row 0: 4·c·d·e·f·a/T
+    ∷ (caseBytes 2 0 1 0 40 7 half 0 quarter sixteen five hundred gives kg 100 1)
+    ∷ (caseBytes 2 0 1 0 365 7 eighth 0 three-quarters five quarter thousand gives kg 46875 36500)
+    -- kind 3 by professionals, a 1/4: A·V·R·N times 3 over 400,000; then by others, 5 over 400,000
+    ∷ (caseBytes 3 1 1 1 0 7 quarter 0 0 0 0 0 gives kg 57456 40000000)
+    ∷ (caseBytes 3 2 1 1 0 7 quarter 0 0 0 0 0 gives kg 21168 4000000)
+    ∷ (caseBytes 3 3 1 1 0 7 quarter 0 0 0 0 0 gives kg 393750 400000)
+    ∷ (caseBytes 3 4 1 1 0 7 quarter 0 0 0 0 0 gives kg 175455 4000000)
+    ∷ (caseBytes 3 5 1 1 0 7 quarter 0 0 0 0 0 gives kg 1500000 400000)
+    ∷ (caseBytes 3 6 1 1 0 7 quarter 0 0 0 0 0 gives kg 164052 4000000)
+    ∷ (caseBytes 3 7 1 1 0 7 quarter 0 0 0 0 0 gives kg 558600 400000)
+    ∷ (caseBytes 3 4 1 2 0 7 quarter 0 0 0 0 0 gives kg 292425 4000000)
+    -- row 0: d·e·f·a·T times 3 over 100,000, and 5
+    ∷ (caseBytes 3 0 1 1 3 7 half 0 0 sixteen five hundred gives kg 36 100)
+    ∷ (caseBytes 3 0 1 2 3 7 half 0 0 sixteen five hundred gives kg 60 100)
+    ∷ (caseBytes 3 0 1 1 100 7 eighth 0 0 five quarter thousand gives kg 46875 100000)
+    -- kind 4: 0.2·a·(1 − b)·c/260, and by T with row 0
+    ∷ (caseBytes 4 1 1 0 0 7 five quarter eighth 0 0 0 gives kg 9375 26000000)
+    ∷ (caseBytes 4 0 1 0 100 7 sixteen quarter half 0 0 0 gives kg 12 1000)
+    ∷ (caseBytes 4 0 1 0 365 7 five three-quarters eighth 0 0 0 gives kg 3125 36500000)
+    -- kind 5: 1000·a·b·c/T, with d for air, e for soil
+    ∷ record { case = caseBytes 5 0 1 0 100 7 five three-quarters quarter eighth thirty-second 0; water = kg 9375 1000; air = kg 46875 10000; soil = kg 1171875 1000000 }
+    -- kind 6, a 1/4, b 1/8: 10·H·M·G/32
+    ∷ (caseBytes 6 1 1 0 0 7 quarter eighth 0 0 0 0 gives kg 852 3200)
+    ∷ (caseBytes 6 2 1 0 0 7 quarter eighth 0 0 0 0 gives kg 12 32)
+    ∷ (caseBytes 6 3 1 0 0 7 quarter eighth 0 0 0 0 gives kg 4 32)
+    ∷ (caseBytes 6 4 1 0 0 7 quarter eighth 0 0 0 0 gives kg 16 320)
+    ∷ (caseBytes 6 5 1 0 0 7 quarter eighth 0 0 0 0 gives kg 15 32)
+    -- row 0: 10·f·e·d·a·b
+    ∷ (caseBytes 6 0 1 0 0 7 half eighth 0 five sixteen quarter gives kg 125 10)
+    ∷ (caseBytes 6 0 1 0 0 7 quarter three-quarters 0 hundred five half gives kg 46875 100)
+    -- kind 7: a·c·b·(1 − d)·e times 2000 over 3, and by T with row 0
+    ∷ (caseBytes 7 1 1 0 0 7 three-quarters eighth five quarter thirty-second 0 gives kg 1875 256)
+    ∷ (caseBytes 7 0 1 0 3 7 half quarter five three-quarters eighth 0 gives kg 390625 10000)
+    ∷ (caseBytes 7 0 1 0 100 7 eighth half unit quarter thirty-second 0 gives kg 3125 32)
+    ∷ []
+
+-- the case is accepted, and its equations have the values worked out
+unfoldable pub Worked : RowExample → Type 0
+Worked e =
+    let k = caseOf (e .case) in
+    let h = headOf (e .case) in
+    (refusalOf (e .case) ≡ 0)
+    × Same (micrograms (toWater k h)) (e .water)
+    × Same (micrograms (toAir k h)) (e .air)
+    × Same (micrograms (toSoil k h)) (e .soil)
+
+unfoldable pub AllWorked : List RowExample → Type 0
+unfolding Worked
+AllWorked [] = Unit {0}
+AllWorked (e ∷ es) = Worked e × AllWorked es
