@@ -4,6 +4,7 @@ pub mod KindTable
 pub mod Six
 pub mod Limits
 pub mod Passed
+pub mod Said
 pub mod Sum
 pub mod Edges
 pub mod ReadBack
