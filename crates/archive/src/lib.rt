@@ -2,7 +2,7 @@
 // specs/ says when each refusal holds, what each call answers, and which bytes it leaves.
 ghost use mathlib.Core.Path.{_≡_};
 ghost use Rattle.scenario.specs.Case.{refusalOf};
-ghost use Rattle.archive.specs.Archive.{emptying, emptyBytes, filing, fileBytes, fileRefusal, showRefusal, showPart, naming, recordFigures};
+ghost use Rattle.archive.specs.Archive.{emptying, emptyBytes, filing, fileBytes, fileRefusal, showRefusal, showPart, naming, isRecord, recordFigures};
 use emission::work_out;
 use records::search;
 
@@ -115,12 +115,24 @@ pub fn worst(archive: &[u8], used: u64, compartment: u64) -> Highest
     Highest::Number(search::worst_of(archive, n, compartment as usize) as u64)
 }
 
-// The four figures of a record; zeros of a slice that is too short to be one.
-pub fn figures_of(bytes: &[u8]) -> [u64; 4]
-    ensures { λ r. ⌜ r ≡ recordFigures (now (bytes .entry)) ⌝ }
+// Whether bytes are a record, and its four figures. Where they are none, the figures are 0 and count as no result.
+pub struct RecordFigures {
+    pub found: bool,
+    pub figures: [u64; 4],
+}
+
+// The figures of a record, such as show lends; told apart from those of no record, such as the empty part beside a refusal.
+pub fn figures_of(bytes: &[u8]) -> RecordFigures
+    ensures { λ r. ⌜ (r .found ≡ isRecord (now (bytes .entry))) × (r .figures ≡ recordFigures (now (bytes .entry))) ⌝ }
 {
-    if bytes.len() < records::RECORD_SIZE {
-        return [0, 0, 0, 0];
+    if bytes.len() != records::RECORD_SIZE {
+        return RecordFigures {
+            found: false,
+            figures: [0, 0, 0, 0],
+        };
     }
-    records::figures_at(bytes)
+    RecordFigures {
+        found: true,
+        figures: records::figures_at(bytes),
+    }
 }

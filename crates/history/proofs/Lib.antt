@@ -9,4 +9,5 @@ pub mod OneVariable
 pub mod InterfacePossible
 pub mod SingleCalls
 pub mod FreeSpace
+pub mod ShownFigures
 pub mod WorkedHistory
