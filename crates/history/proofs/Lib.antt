@@ -1,5 +1,4 @@
 -- Laws, and the theorems over calls and histories.
-pub mod AnswerLaws
 pub mod Demand1
 pub mod Turns
 pub mod Demand3
