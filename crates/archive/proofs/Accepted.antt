@@ -1,23 +1,20 @@
 -- What a call may rely on once it is not refused: `Shown` with `shown-facts`, `Free` with `free-facts`.
--- What file answers: `file-refused`, `file-accepted`; each field of what it files: `filed-field`.
+-- What file answers: `file-refused`, `file-accepted`; what it leaves is in `Left`.
 use mathlib.Core.Path.{_≡_, refl, sym, ap, _∙_}
 use mathlib.Core.List.{List}
 use Prim.Native.Nat.{ℕ, _+_, _*_, _-_, _≤_, _<_}
 use native.Mathlib.Omega.{arith}
 use borrow.Author.Tests.{leb-false}
-use lib.ListN.{length, getD}
+use lib.ListN.{length}
 use Rattle.scenario.specs.Refusal.{firstOf}
 use Rattle.scenario.specs.Case.{refusalOf}
-use Rattle.records.specs.Layout.{usedLength, mostRecords, recordSize, bytesAt}
-use Rattle.records.specs.Fields.{fields, noField, fieldBytes}
+use Rattle.records.specs.Layout.{usedLength, mostRecords, recordSize}
 use Rattle.records.specs.Buffer.{countAt}
 use Rattle.records.proofs.Trailer.{Sound, sound-facts}
-use Rattle.records.proofs.FieldTable.{written-field}
-use Rattle.archive.specs.Archive.{showRefusals, showRefusal, fromState, fileRefusal, filing, lineFor, fileBytes}
+use Rattle.archive.specs.Archive.{showRefusals, showRefusal, fromState, fileRefusal, filing, fileBytes}
 use Rattle.archive.specs.Answers.{ofFiling, fileAnswer}
 use Rattle.archive.specs.declared.Filing.the-variants.{Filed, Refused}
 use Rattle.scenario.proofs.Refusals.{none-holds}
-use Rattle.archive.proofs.Cases.{sized-line}
 use Rattle.archive.proofs.AnswerLaws.{of-filing}
 use Rattle.archive.proofs.Refusals.{full-exactly, both-zero, file-refusal-is, accepted-refused}
 
@@ -60,6 +57,7 @@ file-refused b u c r e h =
     let a : Refused r ≡ filing b u c = ap Refused e ∙ sym (accepted-refused (fileRefusal b u c) _ (Refused (fileRefusal b u c)) z) in
     (a, sym (accepted-refused (fileRefusal b u c) _ b z), ap (λ f. ofFiling f u) a ∙ of-filing b u c)
 
+-- the answer; the bytes are in `Left`
 pub file-accepted : (b : List ℕ) (u : ℕ) (c : List ℕ) {n : ℕ} → fileRefusal b u c ≡ 0 → n ≡ countAt b u
     → (Filed n (u + recordSize) ≡ filing b u c) × (ofFiling (Filed n (u + recordSize)) u ≡ fileAnswer b u c)
 unfolding filing
@@ -68,12 +66,3 @@ file-accepted b u c {n} e m =
     let z : u + recordSize ≡ usedLength recordSize (countAt b u + 1) = omega (arith, h .sound .length-is) in
     let a : Filed n (u + recordSize) ≡ filing b u c = rw (e, z, m) in
     (a, ap (λ f. ofFiling f u) a ∙ of-filing b u c)
-
--- each field of the table stands at its offset in the record that is written
-pub filed-field : (b : List ℕ) (u : ℕ) (c : List ℕ) → fileRefusal b u c ≡ 0 → (k : ℕ) → k < length fields
-    → let f = getD fields k noField in
-    bytesAt (fileBytes b u c) (recordSize * countAt b u + f .offset) (f .width) ≡ fieldBytes (lineFor c) (f .offset) (f .width) (f .source)
-unfolding fileBytes
-filed-field b u c e k h =
-    let g = free-facts b u c e in
-    rw e (written-field b (countAt b u) (lineFor c) (sized-line c (g .within-ranges)) (omega (arith, g .sound .inside, g .sound .length-is)) k h)

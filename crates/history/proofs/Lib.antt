@@ -7,6 +7,7 @@ pub mod Interface
 pub mod OneVariable
 pub mod InterfacePossible
 pub mod SingleCalls
+pub mod BytesLeft
 pub mod FreeSpace
 pub mod ShownFigures
 pub mod WorkedHistory
