@@ -1,23 +1,21 @@
 -- What a call may rely on once it is not refused: `Shown` with `shown-facts`, `Free` with `free-facts`.
--- What file answers and leaves: `file-refused`, `file-accepted`; each field of what it files: `filed-field`.
+-- What file answers: `file-refused`, `file-accepted`; what it leaves is in `Left`.
 use mathlib.Core.Path.{_≡_, refl, sym, ap, _∙_}
 use mathlib.Core.List.{List}
 use Prim.Native.Nat.{ℕ, _+_, _*_, _-_, _≤_, _<_}
 use native.Mathlib.Omega.{arith}
 use borrow.Author.Tests.{leb-false}
-use lib.ListN.{length, getD}
+use lib.ListN.{length}
 use Rattle.scenario.specs.Refusal.{firstOf}
 use Rattle.scenario.specs.Case.{refusalOf}
-use Rattle.emission.specs.Figures.{figuresOf}
-use Rattle.records.specs.Layout.{usedLength, mostRecords, recordSize, bytesAt}
-use Rattle.records.specs.Fields.{fields, noField, fieldBytes}
-use Rattle.records.specs.Buffer.{countAt, written}
+use Rattle.records.specs.Layout.{usedLength, mostRecords, recordSize}
+use Rattle.records.specs.Buffer.{countAt}
 use Rattle.records.proofs.Trailer.{Sound, sound-facts}
-use Rattle.records.proofs.FieldTable.{written-field}
-use Rattle.archive.specs.Archive.{showRefusals, showRefusal, fromState, fileRefusal, filing, lineFor, fileBytes}
+use Rattle.archive.specs.Archive.{showRefusals, showRefusal, fromState, fileRefusal, filing, fileBytes}
+use Rattle.archive.specs.Answers.{ofFiling, fileAnswer}
 use Rattle.archive.specs.declared.Filing.the-variants.{Filed, Refused}
 use Rattle.scenario.proofs.Refusals.{none-holds}
-use Rattle.archive.proofs.Cases.{sized-line}
+use Rattle.archive.proofs.AnswerLaws.{of-filing}
 use Rattle.archive.proofs.Refusals.{full-exactly, both-zero, file-refusal-is, accepted-refused}
 
 -- ── show that is not refused
@@ -51,25 +49,20 @@ free-facts b u c e =
     let n = f .1 in
     record { within-ranges = z .0; sound = s; room = f .0; fewer = omega (arith, s .few) }
 
-pub file-refused : (b : List ℕ) (u : ℕ) (c : List ℕ) (r : ℕ) → r ≡ fileRefusal b u c → (r ≡ 0 → ⊥) → (Refused r ≡ filing b u c) × (b ≡ fileBytes b u c)
+pub file-refused : (b : List ℕ) (u : ℕ) (c : List ℕ) (r : ℕ) → r ≡ fileRefusal b u c → (r ≡ 0 → ⊥)
+    → (Refused r ≡ filing b u c) × (b ≡ fileBytes b u c) × (ofFiling (Refused r) u ≡ fileAnswer b u c)
 unfolding filing fileBytes
 file-refused b u c r e h =
     let z : fileRefusal b u c ≡ 0 → ⊥ = λ q. h (e ∙ q) in
-    (ap Refused e ∙ sym (accepted-refused (fileRefusal b u c) _ (Refused (fileRefusal b u c)) z), sym (accepted-refused (fileRefusal b u c) _ b z))
+    let a : Refused r ≡ filing b u c = ap Refused e ∙ sym (accepted-refused (fileRefusal b u c) _ (Refused (fileRefusal b u c)) z) in
+    (a, sym (accepted-refused (fileRefusal b u c) _ b z), ap (λ f. ofFiling f u) a ∙ of-filing b u c)
 
-pub file-accepted : (b : List ℕ) (u : ℕ) (c : List ℕ) {n : ℕ} {f b′ : List ℕ} → fileRefusal b u c ≡ 0 → n ≡ countAt b u → f ≡ figuresOf c
-    → b′ ≡ written b n (record { case = c; figures = f }) → (Filed n (u + recordSize) ≡ filing b u c) × (b′ ≡ fileBytes b u c)
-unfolding filing fileBytes
-file-accepted b u c e m g w =
+-- the answer; the bytes are in `Left`
+pub file-accepted : (b : List ℕ) (u : ℕ) (c : List ℕ) {n : ℕ} → fileRefusal b u c ≡ 0 → n ≡ countAt b u
+    → (Filed n (u + recordSize) ≡ filing b u c) × (ofFiling (Filed n (u + recordSize)) u ≡ fileAnswer b u c)
+unfolding filing
+file-accepted b u c {n} e m =
     let h = free-facts b u c e in
     let z : u + recordSize ≡ usedLength recordSize (countAt b u + 1) = omega (arith, h .sound .length-is) in
-    rw (e, z, m) (refl, w ∙ λ i. written b (m i) (record { case = c; figures = g i }))
-
--- each field of the table stands at its offset in the record that is written
-pub filed-field : (b : List ℕ) (u : ℕ) (c : List ℕ) → fileRefusal b u c ≡ 0 → (k : ℕ) → k < length fields
-    → let f = getD fields k noField in
-    bytesAt (fileBytes b u c) (recordSize * countAt b u + f .offset) (f .width) ≡ fieldBytes (lineFor c) (f .offset) (f .width) (f .source)
-unfolding fileBytes
-filed-field b u c e k h =
-    let g = free-facts b u c e in
-    rw e (written-field b (countAt b u) (lineFor c) (sized-line c (g .within-ranges)) (omega (arith, g .sound .inside, g .sound .length-is)) k h)
+    let a : Filed n (u + recordSize) ≡ filing b u c = rw (e, z, m) in
+    (a, ap (λ f. ofFiling f u) a ∙ of-filing b u c)

@@ -1,8 +1,12 @@
--- What each enum says in the paper's numbers: refusal, record number, used length.
+-- What each enum says in the paper's numbers, refusal, record number and used length; and which numbers each call gives.
 -- Paper 01, 'From the state': "the places for figures and record number hold 0 beside it …; the used length comes back as given (empty: 0)".
 use mathlib.Core.List.{List}
-use Prim.Native.Nat.{ℕ}
+use Prim.Native.Nat.{ℕ, _+_}
+use Rattle.records.specs.Layout.{trailerSize, usedLength, recordSize}
+use Rattle.records.specs.Lines.{worstOf}
+use Rattle.records.specs.Buffer.{countAt, linesIn}
 use Rattle.archive.specs.Conditions.{accepted}
+use Rattle.archive.specs.Archive.{emptyRefusal, fileRefusal, worstRefusal}
 use Rattle.archive.specs.declared.Emptied.{Emptied}
 use Rattle.archive.specs.declared.Emptied.the-variants.{Used, Refused}
 use Rattle.archive.specs.declared.Filing.{Filing}
@@ -17,6 +21,8 @@ pub data Answer : Type 0 where
   shown : (refusal : ℕ) (part : List ℕ) → Answer
   named : (refusal number : ℕ) → Answer
 
+-- ── of each enum
+
 abbrev pub ofEmptied : Emptied → Answer
 ofEmptied (Used v) = emptied 0 v
 ofEmptied (Refused r) = emptied r 0
@@ -29,6 +35,22 @@ ofFiling (NotFiled r) u = filed r 0 u
 abbrev pub ofHighest : Highest → Answer
 ofHighest (Number k) = named 0 k
 ofHighest (NotNamed r) = named r 0
+
+-- ── what each call gives, from the bytes b of the lent archive and a used length u
+
+unfoldable pub emptyAnswer : List ℕ → Answer
+emptyAnswer b = let r = emptyRefusal b in emptied r (accepted r trailerSize 0)
+
+unfoldable pub fileAnswer : List ℕ → ℕ → List ℕ → Answer
+fileAnswer b u c =
+    let r = fileRefusal b u c in
+    let n = countAt b u in
+    filed r (accepted r n 0) (accepted r (usedLength recordSize (n + 1)) u)
+
+unfoldable pub worstAnswer : List ℕ → ℕ → ℕ → Answer
+worstAnswer b u m = let r = worstRefusal b u m in named r (accepted r (worstOf m (linesIn b u)) 0)
+
+-- ── of any answer
 
 -- the refusal of an answer, 0 for none
 abbrev pub refusalIn : Answer → ℕ

@@ -1,6 +1,6 @@
 -- What each call answers and leaves, from the bytes b of the lent archive and a used length u: what the contracts cite.
 -- Paper 01, 'The archive', 'From the state, after those, in this order'. Held and worst are the ledger's own, on the lines that the bytes hold.
-use mathlib.Core.Bool.{cond}
+use mathlib.Core.Bool.{Bool, cond}
 use mathlib.Core.List.{List, [], _∷_, _++_}
 use Prim.Native.Nat.{ℕ, _+_, _*_}
 use lib.Dec.{ltb, leb, eqb}
@@ -81,7 +81,12 @@ worstRefusal b u m = firstOf (worstRefusals b u m)
 unfoldable pub naming : List ℕ → ℕ → ℕ → Highest
 naming b u m = accepted (worstRefusal b u m) (Number (worstOf m (linesIn b u))) (NotNamed (worstRefusal b u m))
 
--- ── the figures of a record: those of its line, and zeros for bytes that are too short to be one
+-- ── the figures of a record
 
+-- bytes are a record by their number alone: 96, what show lends
+unfoldable pub isRecord : List ℕ → Bool
+isRecord r = eqb (length r) recordSize
+
+-- those of its line, and zeros beside what is no record
 unfoldable pub recordFigures : List ℕ → List ℕ
-recordFigures r = cond (ltb (length r) recordSize) (0 ∷ 0 ∷ 0 ∷ 0 ∷ []) (lineOf r .figures)
+recordFigures r = cond (isRecord r) (lineOf r .figures) (0 ∷ 0 ∷ 0 ∷ 0 ∷ [])

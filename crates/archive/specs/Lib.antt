@@ -2,3 +2,4 @@
 pub mod Conditions
 pub mod Archive
 pub mod Answers
+pub mod Left

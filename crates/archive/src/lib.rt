@@ -2,7 +2,8 @@
 // specs/ says when each refusal holds, what each call answers, and which bytes it leaves.
 ghost use mathlib.Core.Path.{_≡_};
 ghost use Rattle.scenario.specs.Case.{refusalOf};
-ghost use Rattle.archive.specs.Archive.{emptying, emptyBytes, filing, fileBytes, fileRefusal, showRefusal, showPart, naming, recordFigures};
+ghost use Rattle.archive.specs.Archive.{emptying, emptyBytes, filing, fileBytes, fileRefusal, showRefusal, showPart, naming, isRecord, recordFigures};
+ghost use Rattle.archive.specs.Answers.{ofEmptied, ofFiling, ofHighest, emptyAnswer, fileAnswer, worstAnswer};
 use emission::work_out;
 use records::search;
 
@@ -23,7 +24,7 @@ pub enum Highest {
 }
 
 pub fn empty(archive: &mut [u8]) -> Emptied
-    ensures { λ r. ⌜ (r ≡ emptying (now (archive .entry))) × (now (archive .exit) ≡ emptyBytes (now (archive .entry))) ⌝ }
+    ensures { λ r. ⌜ (r ≡ emptying (now (archive .entry))) × (now (archive .exit) ≡ emptyBytes (now (archive .entry))) × (ofEmptied r ≡ emptyAnswer (now (archive .entry))) ⌝ }
 {
     if archive.len() < records::TRAILER_SIZE {
         return Emptied::Refused(23);
@@ -59,7 +60,7 @@ fn file_refusal(archive: &[u8], used: u64, case: &[u8], refusal: u32) -> u32
 
 // Works the case out and files it with its figures.
 pub fn file(archive: &mut [u8], used: u64, case: &[u8]) -> Filing
-    ensures { λ r. ⌜ (r ≡ filing (now (archive .entry)) used (now (case .entry))) × (now (archive .exit) ≡ fileBytes (now (archive .entry)) used (now (case .entry))) ⌝ }
+    ensures { λ r. ⌜ (r ≡ filing (now (archive .entry)) used (now (case .entry))) × (now (archive .exit) ≡ fileBytes (now (archive .entry)) used (now (case .entry))) × (ofFiling r used ≡ fileAnswer (now (archive .entry)) used (now (case .entry))) ⌝ }
 {
     let worked = work_out(case);
     let refusal = file_refusal(archive, used, case, worked.refusal);
@@ -100,7 +101,7 @@ pub fn show(archive: &[u8], used: u64, number: u64) -> &[u8]
 
 // Which record is the worst in a compartment, 1 to 4 in the order of the figures.
 pub fn worst(archive: &[u8], used: u64, compartment: u64) -> Highest
-    ensures { λ r. ⌜ r ≡ naming (now (archive .entry)) used compartment ⌝ }
+    ensures { λ r. ⌜ (r ≡ naming (now (archive .entry)) used compartment) × (ofHighest r ≡ worstAnswer (now (archive .entry)) used compartment) ⌝ }
 {
     if (compartment < 1) | (4 < compartment) {
         return Highest::Refused(12);
@@ -115,12 +116,24 @@ pub fn worst(archive: &[u8], used: u64, compartment: u64) -> Highest
     Highest::Number(search::worst_of(archive, n, compartment as usize) as u64)
 }
 
-// The four figures of a record; zeros of a slice that is too short to be one.
-pub fn figures_of(bytes: &[u8]) -> [u64; 4]
-    ensures { λ r. ⌜ r ≡ recordFigures (now (bytes .entry)) ⌝ }
+// Whether bytes are a record, and its four figures. Where they are none, the figures are 0 and count as no result.
+pub struct RecordFigures {
+    pub found: bool,
+    pub figures: [u64; 4],
+}
+
+// The figures of a record, such as show lends; told apart from those of no record, such as the empty part beside a refusal.
+pub fn figures_of(bytes: &[u8]) -> RecordFigures
+    ensures { λ r. ⌜ (r .found ≡ isRecord (now (bytes .entry))) × (r .figures ≡ recordFigures (now (bytes .entry))) ⌝ }
 {
-    if bytes.len() < records::RECORD_SIZE {
-        return [0, 0, 0, 0];
+    if bytes.len() != records::RECORD_SIZE {
+        return RecordFigures {
+            found: false,
+            figures: [0, 0, 0, 0],
+        };
     }
-    records::figures_at(bytes)
+    RecordFigures {
+        found: true,
+        figures: records::figures_at(bytes),
+    }
 }

@@ -1,5 +1,6 @@
 -- Laws of `splice`, the one form in which a write is stated: `splice-nil`, `length-splice`, `splice-splice`, `splice-join`,
--- `splice-read` (what was written is read back), `put-one` (one byte stored), `put-halves` (a number written by halves),
+-- `splice-read` (what was written is read back), `splice-before`, `splice-behind` (all other places are as they were), `put-one` (one byte stored),
+-- `put-halves` (a number written by halves),
 -- `Copied` with `copied-none`, `copied-more`, `copied-all`, and `copied-rest` (bytes copied, some at a time).
 -- Laws of the bytes themselves are in `Numbers`.
 use mathlib.Core.Path.{_≡_, refl, sym, ap, _∙_}
@@ -7,8 +8,8 @@ use mathlib.Core.List.{List, [], _∷_, _++_, append-assoc, append-nil}
 use Prim.Native.Nat.{ℕ, suc, _+_, _-_, _/_, _%_, _^_, _≤_, _<_}
 use native.Mathlib.Nat.{add-zero, add-suc, suc-add, mod-eq-of-lt}
 use native.Mathlib.Omega.{arith}
-use lib.ListN.{length, take, drop, getD, set, length-append, length-drop, take-append-drop}
-use lib.Seq.{sets, sets-eq, length-sets, length-take-le, take-all, take-append-seam, take-add, drop-at}
+use lib.ListN.{length, take, drop, getD, set, length-append, length-drop, take-append-drop, List·getD-append}
+use lib.Seq.{sets, sets-eq, length-sets, length-take-le, take-all, take-append-seam, take-add, drop-at, getD-append-add, getD-take, getD-drop}
 use Rattle.binary64.specs.Bytes.{bytesOf, numberAt, splice}
 use Rattle.binary64.proofs.Numbers.{length-bytesOf, bytesOf-halves, bytesOf-numberAt}
 
@@ -51,6 +52,24 @@ pub splice-read : (l : List ℕ) (at : ℕ) (vs : List ℕ) → at ≤ length l 
 unfolding splice
 splice-read l at vs h =
     rw (append-assoc, drop-at (take at l) (vs ++ drop (at + length vs) l) at (length-take-le at l h)) (take-append-seam vs (drop (at + length vs) l))
+
+pub splice-before : (l : List ℕ) (at : ℕ) (vs : List ℕ) → at ≤ length l → (i : ℕ) → i < at → getD (splice l at vs) i 0 ≡ getD l i 0
+unfolding splice
+splice-before l at vs h i k =
+    rw (append-assoc (take at l) vs (drop (at + length vs) l), List·getD-append (take at l) (vs ++ drop (at + length vs) l) 0 i (rw (length-take-le at l h) k))
+    (getD-take at l i 0 k)
+
+pub splice-behind : (l : List ℕ) (at : ℕ) (vs : List ℕ) → at ≤ length l → (i : ℕ) → at + length vs ≤ i → getD (splice l at vs) i 0 ≡ getD l i 0
+unfolding splice
+splice-behind l at vs h i k =
+    let n = at + length vs in
+    let p : length (take at l ++ vs) ≡ n = length-append (take at l) vs ∙ rw (length-take-le at l h) in
+    let e : i ≡ length (take at l ++ vs) + (i - n) = omega arith in
+    let f : n + (i - n) ≡ i = omega arith in
+    ap (λ (j : ℕ). getD ((take at l ++ vs) ++ drop n l) j 0) e
+    ∙ getD-append-add (take at l ++ vs) (drop n l) (i - n) 0
+    ∙ getD-drop n l (i - n) 0
+    ∙ rw f
 
 -- the low w bytes of a number, and behind them the v above
 pub put-halves : (a : List ℕ) {b c : List ℕ} (at w v x : ℕ) → at + (w + v) ≤ length a → b ≡ splice a at (bytesOf w (x % 256 ^ w)) → c ≡ splice b (at + w) (bytesOf v (x / 256 ^ w))

@@ -76,7 +76,13 @@ pub fn show(archive: &[u8], used: u64, number: u64) {
         return;
     }
     write_number(b": bytes ", part.len() as u64);
-    write_figures(b", figures ", archive::figures_of(part));
+    let read = archive::figures_of(part);
+    if !read.found {
+        write(b", no record");
+        return;
+    }
+    let figures = read.figures;
+    write_figures(b", figures ", figures);
 }
 
 pub fn worst(archive: &[u8], used: u64, compartment: u64) {

@@ -4,8 +4,8 @@ ghost use mathlib.Core.Path.{_≡_};
 ghost use Rattle.scenario.specs.Case.{refusalOf};
 ghost use Rattle.emission.specs.Figures.{figuresOf};
 ghost use Rattle.records.specs.Layout.{bytesAt};
-ghost use Rattle.archive.specs.Archive.{emptying, emptyBytes, filing, fileBytes, showRefusal, showPart, naming};
-ghost use Rattle.archive.specs.Answers.{emptied, filed, named, ofEmptied, ofFiling, ofHighest};
+ghost use Rattle.archive.specs.Archive.{emptyBytes, fileBytes, showRefusal, showPart};
+ghost use Rattle.archive.specs.Answers.{emptied, filed, named, emptyAnswer, fileAnswer, worstAnswer};
 ghost use Rattle.csorvelin.specs.Place.{startShown, lengthShown};
 use archive::Emptied;
 use archive::Filing;
@@ -21,7 +21,7 @@ pub extern "C" fn csorvelin_work_out(case: &[u8], figures: &mut [u64; 4]) -> u32
 
 #[no_mangle]
 pub extern "C" fn csorvelin_empty(archive: &mut [u8], used: &mut u64) -> u32
-    ensures { λ r. ⌜ (emptied r (now (used .exit)) ≡ ofEmptied (emptying (now (archive .entry)))) × (now (archive .exit) ≡ emptyBytes (now (archive .entry))) ⌝ }
+    ensures { λ r. ⌜ (emptied r (now (used .exit)) ≡ emptyAnswer (now (archive .entry))) × (now (archive .exit) ≡ emptyBytes (now (archive .entry))) ⌝ }
 {
     match archive::empty(archive) {
         Emptied::Used(length) => {
@@ -43,7 +43,7 @@ pub extern "C" fn csorvelin_file(
     case: &[u8],
     number: &mut u64,
 ) -> u32
-    ensures { λ r. ⌜ (filed r (now (number .exit)) (now (used .exit)) ≡ ofFiling (filing (now (archive .entry)) (now (used .entry)) (now (case .entry))) (now (used .entry))) × (now (archive .exit) ≡ fileBytes (now (archive .entry)) (now (used .entry)) (now (case .entry))) ⌝ }
+    ensures { λ r. ⌜ (filed r (now (number .exit)) (now (used .exit)) ≡ fileAnswer (now (archive .entry)) (now (used .entry)) (now (case .entry))) × (now (archive .exit) ≡ fileBytes (now (archive .entry)) (now (used .entry)) (now (case .entry))) ⌝ }
 {
     let given = *used;
     match archive::file(archive, given, case) {
@@ -92,7 +92,7 @@ pub extern "C" fn csorvelin_worst(
     compartment: u64,
     number: &mut u64,
 ) -> u32
-    ensures { λ r. ⌜ named r (now (number .exit)) ≡ ofHighest (naming (now (archive .entry)) used compartment) ⌝ }
+    ensures { λ r. ⌜ named r (now (number .exit)) ≡ worstAnswer (now (archive .entry)) used compartment ⌝ }
 {
     match archive::worst(archive, used, compartment) {
         Highest::Number(highest) => {

@@ -19,7 +19,7 @@ use Rattle.records.proofs.WorstLine.{worst-is-highest}
 use Rattle.emission.specs.Called.{ends}
 use Rattle.emission.proofs.Demand2.{WorkOutCall}
 use Rattle.archive.specs.Archive.{emptyRefusals, emptyRefusal, emptying, emptyBytes, fileRefusals, fileRefusal, filing, fileBytes, showRefusals, showRefusal, showPart, worstRefusals, worstRefusal, naming}
-use Rattle.archive.specs.Answers.{ofEmptied, ofFiling, ofHighest, refusalIn}
+use Rattle.archive.specs.Answers.{ofEmptied, ofFiling, ofHighest, emptyAnswer, fileAnswer, worstAnswer, refusalIn}
 use Rattle.archive.proofs.Refusals.{accepted-refused}
 use borrow.Fn.Kinds as kinds
 use Rattle.scenario.proofs.decode.Kinds as decode-kinds
@@ -55,7 +55,6 @@ use Rattle.archive.proofs.worst.Reads as worst-reads
 use Rattle.archive.proofs.worst.Met as worst-met
 use Rattle.archive.proofs.worst.Statement as worst-statement
 use Rattle.history.specs.Calls.{EmptyCall, FileCall, ShowCall, ShowRefusalCall, WorstCall, SameArguments, InOrder, EmptyInOrder, FileInOrder, ShowInOrder, WorstInOrder}
-use Rattle.history.proofs.AnswerLaws.{of-emptying, of-filing, of-naming}
 
 -- ── the order of refusals
 
@@ -66,21 +65,21 @@ in-order cs r Stated e s = record {
 }
 
 empty-in-order : (call : EmptyCall) → EmptyInOrder call
-unfolding emptying emptyBytes
+unfolding emptying emptyBytes emptyAnswer
 empty-in-order call =
     let b = now (call .args .0) in
     in-order (emptyRefusals b) (refusalIn (ofEmptied (call .result))) _
-    (ap (λ r. refusalIn (ofEmptied r)) (call .kept .0) ∙ ap refusalIn (of-emptying b))
+    (ap refusalIn (call .kept .2))
     (λ z. (call .kept .0 ∙ rw z, call .kept .1 ∙ rw z))
 
 file-in-order : (call : FileCall) → FileInOrder call
-unfolding filing fileBytes
+unfolding filing fileBytes fileAnswer
 file-in-order call =
     let b = now (call .args .0) in
     let u = call .args .1 .0 in
     let c = now (call .args .1 .1 .0) in
     in-order (fileRefusals b u c) (refusalIn (ofFiling (call .result) u)) _
-    (ap (λ r. refusalIn (ofFiling r u)) (call .kept .0) ∙ ap refusalIn (of-filing b u c))
+    (ap refusalIn (call .kept .2))
     (λ z. (call .kept .0 ∙ rw z, call .kept .1 ∙ rw z))
 
 pub told-is : (call : ShowCall) (told : ShowRefusalCall) → SameArguments call told → told .result ≡ showRefusal (now (call .args .0)) (call .args .1 .0) (call .args .1 .1 .0)
@@ -100,14 +99,14 @@ some-worst b u m z =
     worst-is-highest m (linesIn b u) (omega arith)
 
 worst-in-order : (call : WorstCall) → WorstInOrder call
-unfolding naming
+unfolding naming worstAnswer
 worst-in-order call =
     let b = now (call .args .0) in
     let u = call .args .1 .0 in
     let m = call .args .1 .1 .0 in
     in-order (worstRefusals b u m) (refusalIn (ofHighest (call .result))) _
-    (ap (λ r. refusalIn (ofHighest r)) (call .kept) ∙ ap refusalIn (of-naming b u m))
-    (λ z. (call .kept ∙ rw z, some-worst b u m z))
+    (ap refusalIn (call .kept .1))
+    (λ z. (call .kept .0 ∙ rw z, some-worst b u m z))
 
 pub refusals-in-order :
     ((call : EmptyCall) → EmptyInOrder call)
@@ -119,20 +118,18 @@ refusals-in-order = (empty-in-order, file-in-order, show-in-order, worst-in-orde
 -- ── a refusal changes nothing
 
 empty-unchanged : (call : EmptyCall) → (refusalIn (ofEmptied (call .result)) ≡ 0 → ⊥) → now (ends call .0) ≡ now (call .args .0)
-unfolding emptyBytes
+unfolding emptyBytes emptyAnswer
 empty-unchanged call h =
     let b = now (call .args .0) in
-    let e = ap (λ r. refusalIn (ofEmptied r)) (call .kept .0) ∙ ap refusalIn (of-emptying b) in
-    call .kept .1 ∙ accepted-refused (emptyRefusal b) _ b (λ z. h (e ∙ z))
+    call .kept .1 ∙ accepted-refused (emptyRefusal b) _ b (λ z. h (ap refusalIn (call .kept .2) ∙ z))
 
 file-unchanged : (call : FileCall) → (refusalIn (ofFiling (call .result) (call .args .1 .0)) ≡ 0 → ⊥) → now (ends call .0) ≡ now (call .args .0)
-unfolding fileBytes
+unfolding fileBytes fileAnswer
 file-unchanged call h =
     let b = now (call .args .0) in
     let u = call .args .1 .0 in
     let c = now (call .args .1 .1 .0) in
-    let e = ap (λ r. refusalIn (ofFiling r u)) (call .kept .0) ∙ ap refusalIn (of-filing b u c) in
-    call .kept .1 ∙ accepted-refused (fileRefusal b u c) _ b (λ z. h (e ∙ z))
+    call .kept .1 ∙ accepted-refused (fileRefusal b u c) _ b (λ z. h (ap refusalIn (call .kept .2) ∙ z))
 
 show-none : (call : ShowCall) (told : ShowRefusalCall) → SameArguments call told → (told .result ≡ 0 → ⊥) → now (call .result) ≡ []
 unfolding showPart

@@ -18,7 +18,7 @@ use Rattle.records.proofs.HeldLine.{not-held}
 use Rattle.records.proofs.Trailer.{sound-facts}
 use Rattle.archive.specs.Conditions.{full}
 use Rattle.archive.specs.Archive.{emptyRefusals, fileRefusal, filing}
-use Rattle.archive.specs.Answers.{Answer, emptied, filed}
+use Rattle.archive.specs.Answers.{Answer, emptied, filed, emptyAnswer}
 use Rattle.archive.specs.declared.Filing.the-variants.{Filed, Refused}
 use Rattle.archive.proofs.Refusals.{full-exactly, full-short, full-most, file-refusal-is}
 use Rattle.history.specs.Calls.{FileCall}
@@ -85,7 +85,7 @@ filed-exactly h t e o = after-lines (history-followed h .stands) t e o
 -- ── an empty, and the first filing behind it
 
 emptied-16 : {b : List ℕ} {a : Answer} {b′ : List ℕ} → EmptyTurn b a b′ → 16 ≤ length b → a ≡ emptied 0 16
-unfolding emptyRefusals
+unfolding emptyRefusals emptyAnswer
 emptied-16 {b} t h = emptying-answer t ∙ rw (le-ltb (length b) 16 h)
 
 pub first-filing : {b : List ℕ} {u : ℕ} {c f : List ℕ} {cs : List Request} {a₀ a₁ : Answer} {rs : List Answer} {b″ : List ℕ} {u″ : ℕ}

@@ -9,8 +9,8 @@ use lib.ListN.{length}
 use Rattle.emission.specs.Figures.{figuresOf}
 use Rattle.emission.specs.Called.{ends}
 use Rattle.records.specs.Layout.{bytesAt}
-use Rattle.archive.specs.Archive.{emptying, emptyBytes, filing, fileBytes, showRefusal, showPart, naming}
-use Rattle.archive.specs.Answers.{Answer, shown, ofEmptied, ofFiling, ofHighest}
+use Rattle.archive.specs.Archive.{emptyBytes, fileBytes, showRefusal, showPart}
+use Rattle.archive.specs.Answers.{Answer, shown, emptyAnswer, fileAnswer, worstAnswer}
 use Rattle.history.specs.Ledger.{Request, empty, file, show, worst, after}
 use Rattle.history.specs.History.{WorkedOut, EmptyTurn, FileTurn, ShowTurn, WorstTurn, Turn, RunBy, done, next, Run, HistoryBy, After}
 use Rattle.history.specs.Interface.{CWorkedOut, CEmptyTurn, CFileTurn, CShowTurn, CWorstTurn, CTurn}
@@ -25,13 +25,13 @@ c-worked {c} {f} w = can-work-out (w .call .κs .0) c f (w .gave ∙ w .call .ke
 
 pub c-empty : {b : List ℕ} {a : Answer} {b′ : List ℕ} → CEmptyTurn b a b′ → EmptyTurn b a b′
 c-empty {b} {a} {b′} t =
-    let e : a ≡ ofEmptied (emptying b) = t .says ∙ t .call .kept .0 ∙ ap (λ (x : List ℕ). ofEmptied (emptying x)) (t .before) in
+    let e : a ≡ emptyAnswer b = t .says ∙ t .call .kept .0 ∙ ap emptyAnswer (t .before) in
     let o : b′ ≡ emptyBytes b = sym (t .after) ∙ t .call .kept .1 ∙ ap emptyBytes (t .before) in
     rw (e, o) (can-empty (t .call .κs .0) b)
 
 c-file : {c f b : List ℕ} {u : ℕ} {a : Answer} {b′ : List ℕ} → CFileTurn c f b u a b′ → FileTurn c f b u a b′
 c-file {c} {f} {b} {u} {a} {b′} t =
-    let e : a ≡ ofFiling (filing b u c) u = t .says ∙ t .call .kept .0 ∙ λ i. ofFiling (filing (t .before i) (t .at i) (t .case i)) (t .at i) in
+    let e : a ≡ fileAnswer b u c = t .says ∙ t .call .kept .0 ∙ λ i. fileAnswer (t .before i) (t .at i) (t .case i) in
     let o : b′ ≡ fileBytes b u c = sym (t .after) ∙ t .call .kept .1 ∙ λ i. fileBytes (t .before i) (t .at i) (t .case i) in
     rw (e, o) (can-file (t .call .κs .0) c f b u (λ z. c-worked (t .fed z)))
 
@@ -47,7 +47,7 @@ c-show {k} {b} {u} {a} {b′} t =
 
 c-worst : {m : ℕ} {b : List ℕ} {u : ℕ} {a : Answer} {b′ : List ℕ} → CWorstTurn m b u a b′ → WorstTurn m b u a b′
 c-worst {m} {b} {u} {a} {b′} t =
-    let e : a ≡ ofHighest (naming b u m) = t .says ∙ t .call .kept ∙ λ i. ofHighest (naming (t .before i) (t .at i) (t .compartment i)) in
+    let e : a ≡ worstAnswer b u m = t .says ∙ t .call .kept ∙ λ i. worstAnswer (t .before i) (t .at i) (t .compartment i) in
     let o : b′ ≡ b = sym (t .after) ∙ t .before in
     rw (e, o) (can-worst (t .call .κs .0) m b u)
 

@@ -1,5 +1,5 @@
 -- That there are such calls of the C interface, and histories of them: `c-history-can`. The functions meet the contracts that such a call goes by: `c-met`.
-use mathlib.Core.Path.{_≡_, refl, sym}
+use mathlib.Core.Path.{_≡_, refl}
 use mathlib.Core.List.{List, []}
 use Prim.Native.Nat.{ℕ, zero, suc, _+_, _*_, _≤_}
 use base.Fml.{Lft}
@@ -10,9 +10,9 @@ use Rattle.records.specs.Layout.{trailerSize, usedLength, recordSize, bytesAt}
 use Rattle.records.specs.Lines.{worstOf}
 use Rattle.records.specs.Buffer.{countAt, linesIn}
 use Rattle.archive.specs.Conditions.{accepted}
-use Rattle.archive.specs.Archive.{emptyRefusal, emptying, emptyBytes, fileRefusal, filing, fileBytes, showRefusal, showPart, worstRefusal, naming}
+use Rattle.archive.specs.Archive.{emptyRefusal, emptyBytes, fileRefusal, fileBytes, showRefusal, showPart, worstRefusal}
 use Rattle.csorvelin.specs.Place.{startShown, lengthShown}
-use Rattle.archive.specs.Answers.{shown, ofEmptied, ofFiling, ofHighest}
+use Rattle.archive.specs.Answers.{shown, emptyAnswer, fileAnswer, worstAnswer}
 use Rattle.csorvelin.proofs.csorvelin_work_out.Met as work-out-met
 use Rattle.csorvelin.proofs.csorvelin_work_out.Statement as work-out-statement
 use Rattle.csorvelin.proofs.csorvelin_empty.Met as empty-met
@@ -26,7 +26,6 @@ use Rattle.csorvelin.proofs.csorvelin_worst.Statement as worst-statement
 use Rattle.history.specs.Ledger.{Request, empty, file, show, worst, after}
 use Rattle.history.specs.History.{Fed, AllFed, HistoryOf}
 use Rattle.history.specs.Interface.{CEmptyTurn, CTurn}
-use Rattle.history.proofs.AnswerLaws.{of-emptying, of-filing, of-naming}
 use Rattle.history.proofs.Turns.{kept}
 use Rattle.history.proofs.Possible.{CanTurn, history-by, lent}
 
@@ -37,28 +36,28 @@ module _ (κ : Lft) where
   shown-place b k zero = refl
   shown-place b k (suc r) = refl
 
-  c-can-empty : (b : List ℕ) → CEmptyTurn b (ofEmptied (emptying b)) (emptyBytes b)
-  unfolding lent
+  c-can-empty : (b : List ℕ) → CEmptyTurn b (emptyAnswer b) (emptyBytes b)
+  unfolding lent emptyAnswer
   c-can-empty b = record {
     call = record {
       κs = (κ, (κ, tt));
       args = (lent b, (lent 0, tt));
       result = emptyRefusal b;
       last = (emptyBytes b, (accepted (emptyRefusal b) trailerSize 0, tt));
-      kept = (sym (of-emptying b), refl);
+      kept = (refl, refl);
     };
     before = refl;
     after = refl;
-    says = of-emptying b;
+    says = refl;
   }
 
   c-turn-can : (c : Request) → Fed c → (b : List ℕ) (u : ℕ) → CanTurn CTurn c b u
-  unfolding lent startShown lengthShown showPart
-  c-turn-can empty d b u = record { answer = ofEmptied (emptying b); bytes = emptyBytes b; turn = c-can-empty b }
+  unfolding lent startShown lengthShown showPart fileAnswer worstAnswer
+  c-turn-can empty d b u = record { answer = emptyAnswer b; bytes = emptyBytes b; turn = c-can-empty b }
   c-turn-can (file c f) d b u =
       let r = fileRefusal b u c in
       record {
-        answer = ofFiling (filing b u c) u;
+        answer = fileAnswer b u c;
         bytes = fileBytes b u c;
         turn = record {
           call = record {
@@ -66,13 +65,13 @@ module _ (κ : Lft) where
             args = (lent b, (lent u, (lent c, (lent 0, tt))));
             result = r;
             last = (fileBytes b u c, (accepted r (usedLength recordSize (countAt b u + 1)) u, (tt, (accepted r (countAt b u) 0, tt))));
-            kept = (sym (of-filing b u c), refl);
+            kept = (refl, refl);
           };
           before = refl;
           at = refl;
           case = refl;
           after = refl;
-          says = of-filing b u c;
+          says = refl;
           fed = λ e. record {
             call = record { κs = (κ, (κ, tt)); args = (lent c, (lent (figuresOf c), tt)); result = refusalOf c; last = (tt, (figuresOf c, tt)); kept = (refl, refl) };
             on = refl;
@@ -103,7 +102,7 @@ module _ (κ : Lft) where
   c-turn-can (worst m) d b u =
       let r = worstRefusal b u m in
       record {
-        answer = ofHighest (naming b u m);
+        answer = worstAnswer b u m;
         bytes = b;
         turn = record {
           call = record {
@@ -111,13 +110,13 @@ module _ (κ : Lft) where
             args = (lent b, (u, (m, (lent 0, tt))));
             result = r;
             last = (tt, (tt, (tt, (accepted r (worstOf m (linesIn b u)) 0, tt))));
-            kept = sym (of-naming b u m);
+            kept = refl;
           };
           before = refl;
           at = refl;
           compartment = refl;
           after = refl;
-          says = of-naming b u m;
+          says = refl;
         };
       }
 

@@ -1,5 +1,4 @@
 -- Laws, and the theorems over calls and histories.
-pub mod AnswerLaws
 pub mod Demand1
 pub mod Turns
 pub mod Demand3
@@ -8,5 +7,7 @@ pub mod Interface
 pub mod OneVariable
 pub mod InterfacePossible
 pub mod SingleCalls
+pub mod BytesLeft
 pub mod FreeSpace
+pub mod ShownFigures
 pub mod WorkedHistory

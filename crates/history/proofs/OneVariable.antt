@@ -12,11 +12,10 @@ use Rattle.records.specs.Layout.{Line, usedLength, recordSize}
 use Rattle.records.specs.Buffer.{countAt}
 use Rattle.archive.specs.Conditions.{accepted}
 use Rattle.archive.specs.Archive.{emptyRefusals, emptyRefusal, fileRefusal}
-use Rattle.archive.specs.Answers.{Answer, emptied, handed}
+use Rattle.archive.specs.Answers.{Answer, emptied, emptyAnswer, fileAnswer, handed}
 use Rattle.history.specs.Ledger.{Request, empty, file, show, worst, after}
 use Rattle.history.specs.History.{RunBy, done, next, BeginsEmpty, begins, HistoryBy}
 use Rattle.history.specs.Interface.{CEmptyTurn, CFileTurn, CTurn, leaves, OneVariable, none, more}
-use Rattle.history.proofs.AnswerLaws.{of-emptying, of-filing}
 use Rattle.history.proofs.Turns.{Stands, kept, first-stands}
 use Rattle.history.proofs.Interface.{c-empty, c-turn}
 
@@ -28,11 +27,12 @@ pub c-handed-empty : {b : List ℕ} {a : Answer} {b′ : List ℕ} (u : ℕ) (t 
 c-handed-empty u t z = rw (t .says, z)
 
 pub c-handed-file : {c f b : List ℕ} {u : ℕ} {a : Answer} {b′ : List ℕ} (t : CFileTurn c f b u a b′) → handed a u ≡ now (ends (t .call) .1 .0)
+unfolding fileAnswer
 c-handed-file {u = u} t =
     let x = now (t .call .args .0) in
     let v = now (t .call .args .1 .0) in
     let d = now (t .call .args .1 .1 .0) in
-    let e = t .call .kept .0 ∙ of-filing x v d in
+    let e = t .call .kept .0 in
     let r : t .call .result ≡ fileRefusal x v d = cc e in
     let w : now (ends (t .call) .1 .0) ≡ accepted (fileRefusal x v d) (usedLength recordSize (countAt x v + 1)) v = cc e in
     rw (t .says, ← t .at, w, r) (twice (fileRefusal x v d) (usedLength recordSize (countAt x v + 1)) v)
@@ -44,9 +44,10 @@ unfolding emptyRefusals
 empty-refusal-none b h = rw (le-ltb (length b) 16 h)
 
 c-handed : (c : Request) (b : List ℕ) (u : ℕ) (a : Answer) (b′ : List ℕ) (t : CTurn c b u a b′) → 16 ≤ length b → handed a u ≡ leaves c b u a b′ t
+unfolding emptyAnswer
 c-handed empty b u a b′ t h =
     let x = now (t .call .args .0) in
-    let e = t .call .kept .0 ∙ of-emptying x in
+    let e = t .call .kept .0 in
     let r : t .call .result ≡ emptyRefusal x = cc e in
     c-handed-empty u t (r ∙ ap emptyRefusal (t .before) ∙ empty-refusal-none b h)
 c-handed (file c f) b u a b′ t h = c-handed-file t

@@ -1,6 +1,6 @@
 -- That there are such calls, runs and histories: each call can be made on any buffer at any used length, with the stated answer (`can-empty` and its fellows),
 -- so every list of requests has a run (`run-can`), and a history from every buffer of 16 bytes or more (`history-can`).
-use mathlib.Core.Path.{_≡_, refl}
+use mathlib.Core.Path.{_≡_, refl, sym}
 use mathlib.Core.List.{List, [], _∷_}
 use Prim.Native.Nat.{ℕ, _≤_}
 use base.Fml.{Lft}
@@ -10,7 +10,8 @@ use lib.ListN.{length}
 use Rattle.scenario.specs.Case.{refusalOf}
 use Rattle.emission.specs.Figures.{figuresOf}
 use Rattle.archive.specs.Archive.{emptyRefusals, emptying, emptyBytes, filing, fileBytes, showRefusal, showPart, naming}
-use Rattle.archive.specs.Answers.{Answer, emptied, shown, ofEmptied, ofFiling, ofHighest, handed}
+use Rattle.archive.specs.Answers.{Answer, emptied, shown, emptyAnswer, fileAnswer, worstAnswer, handed}
+use Rattle.archive.proofs.AnswerLaws.{of-emptying, of-filing, of-naming}
 use Rattle.history.specs.Ledger.{Request, empty, file, show, worst}
 use Rattle.history.specs.History.{WorkedOut, EmptyTurn, FileTurn, ShowTurn, WorstTurn, Turn, Turns, done, next, begins, Fed, AllFed, RunOf, HistoryOf}
 
@@ -31,11 +32,11 @@ module _ (T : Turns) (can : (c : Request) → Fed c → (b : List ℕ) (u : ℕ)
       record { answers = t .answer ∷ r .answers; bytes = r .bytes; used = r .used; run = next (t .turn) (r .run) }
 
   -- behind an empty that is accepted
-  pub history-by : (cs : List Request) → AllFed cs → (b : List ℕ) → T empty b 0 (ofEmptied (emptying b)) (emptyBytes b) → 16 ≤ length b → HistoryOf T b cs
-  unfolding emptyRefusals emptying
+  pub history-by : (cs : List Request) → AllFed cs → (b : List ℕ) → T empty b 0 (emptyAnswer b) (emptyBytes b) → 16 ≤ length b → HistoryOf T b cs
+  unfolding emptyRefusals emptyAnswer
   history-by cs d b t h =
       let r = run-by cs d (emptyBytes b) 16 in
-      let e : emptied 0 16 ≡ ofEmptied (emptying b) = rw (le-ltb (length b) 16 h) in
+      let e : emptied 0 16 ≡ emptyAnswer b = rw (le-ltb (length b) 16 h) in
       let first : T empty b 0 (emptied 0 16) (emptyBytes b) = rw e t in
       record { answers = r .answers; bytes = r .bytes; used = r .used; history = record { given = 0; run = next {a = emptied 0 16} {b′ = emptyBytes b} first (r .run); begun = begins } }
 
@@ -54,24 +55,24 @@ module _ (κ : Lft) where
     gave = e;
   }
 
-  pub can-empty : (b : List ℕ) → EmptyTurn b (ofEmptied (emptying b)) (emptyBytes b)
+  pub can-empty : (b : List ℕ) → EmptyTurn b (emptyAnswer b) (emptyBytes b)
   unfolding lent
   can-empty b = record {
-    call = record { κs = (κ, tt); args = (lent b, tt); result = emptying b; last = (emptyBytes b, tt); kept = (refl, refl) };
+    call = record { κs = (κ, tt); args = (lent b, tt); result = emptying b; last = (emptyBytes b, tt); kept = (refl, refl, of-emptying b) };
     before = refl;
     after = refl;
-    says = refl;
+    says = sym (of-emptying b);
   }
 
-  pub can-file : (c f b : List ℕ) (u : ℕ) → (refusalOf c ≡ 0 → WorkedOut c f) → FileTurn c f b u (ofFiling (filing b u c) u) (fileBytes b u c)
+  pub can-file : (c f b : List ℕ) (u : ℕ) → (refusalOf c ≡ 0 → WorkedOut c f) → FileTurn c f b u (fileAnswer b u c) (fileBytes b u c)
   unfolding lent
   can-file c f b u w = record {
-    call = record { κs = (κ, (κ, tt)); args = (lent b, (u, (lent c, tt))); result = filing b u c; last = (fileBytes b u c, (tt, (tt, tt))); kept = (refl, refl) };
+    call = record { κs = (κ, (κ, tt)); args = (lent b, (u, (lent c, tt))); result = filing b u c; last = (fileBytes b u c, (tt, (tt, tt))); kept = (refl, refl, of-filing b u c) };
     before = refl;
     at = refl;
     case = refl;
     after = refl;
-    says = refl;
+    says = sym (of-filing b u c);
     fed = w;
   }
 
@@ -88,22 +89,22 @@ module _ (κ : Lft) where
     says = refl;
   }
 
-  pub can-worst : (m : ℕ) (b : List ℕ) (u : ℕ) → WorstTurn m b u (ofHighest (naming b u m)) b
+  pub can-worst : (m : ℕ) (b : List ℕ) (u : ℕ) → WorstTurn m b u (worstAnswer b u m) b
   unfolding lent
   can-worst m b u = record {
-    call = record { κs = (κ, tt); args = (lent b, (u, (m, tt))); result = naming b u m; last = (tt, (tt, (tt, tt))); kept = refl };
+    call = record { κs = (κ, tt); args = (lent b, (u, (m, tt))); result = naming b u m; last = (tt, (tt, (tt, tt))); kept = (refl, of-naming b u m) };
     before = refl;
     at = refl;
     compartment = refl;
     after = refl;
-    says = refl;
+    says = sym (of-naming b u m);
   }
 
   turn-can : (c : Request) → Fed c → (b : List ℕ) (u : ℕ) → CanTurn Turn c b u
-  turn-can empty d b u = record { answer = ofEmptied (emptying b); bytes = emptyBytes b; turn = can-empty b }
-  turn-can (file c f) d b u = record { answer = ofFiling (filing b u c) u; bytes = fileBytes b u c; turn = can-file c f b u (λ e. can-work-out c f (d e)) }
+  turn-can empty d b u = record { answer = emptyAnswer b; bytes = emptyBytes b; turn = can-empty b }
+  turn-can (file c f) d b u = record { answer = fileAnswer b u c; bytes = fileBytes b u c; turn = can-file c f b u (λ e. can-work-out c f (d e)) }
   turn-can (show k) d b u = record { answer = shown (showRefusal b u k) (showPart b u k); bytes = b; turn = can-show k b u }
-  turn-can (worst m) d b u = record { answer = ofHighest (naming b u m); bytes = b; turn = can-worst m b u }
+  turn-can (worst m) d b u = record { answer = worstAnswer b u m; bytes = b; turn = can-worst m b u }
 
   pub run-can : (cs : List Request) → AllFed cs → (b : List ℕ) (u : ℕ) → RunOf Turn b u cs
   run-can = run-by Turn turn-can

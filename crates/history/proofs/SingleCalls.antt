@@ -20,21 +20,24 @@ use Rattle.records.specs.Lines.{worstOf}
 use Rattle.records.specs.Buffer.{countAt, linesIn}
 use Rattle.archive.specs.Conditions.{accepted}
 use Rattle.archive.specs.Archive.{emptyRefusals, emptyRefusal, emptyBytes, fileRefusals, fileRefusal, fileBytes, showRefusals, showRefusal, worstRefusals, worstRefusal}
+use Rattle.archive.specs.Answers.{emptyAnswer, fileAnswer, worstAnswer}
 use Rattle.archive.proofs.Refusals.{accepted-refused}
 use Rattle.csorvelin.specs.Place.{startShown, lengthShown}
 use Rattle.history.specs.Interface.{CWorkOutCall, CEmptyCall, CFileCall, CShowCall, CWorstCall}
-use Rattle.history.proofs.AnswerLaws.{of-emptying, of-filing, of-naming}
 
 -- ── the refusal of a call, of what it was given
 
 empty-told : (call : CEmptyCall) → call .result ≡ emptyRefusal (now (call .args .0))
-empty-told call = let e = call .kept .0 ∙ of-emptying (now (call .args .0)) in cc e
+unfolding emptyAnswer
+empty-told call = cc (call .kept .0)
 
 file-told : (call : CFileCall) → call .result ≡ fileRefusal (now (call .args .0)) (now (call .args .1 .0)) (now (call .args .1 .1 .0))
-file-told call = let e = call .kept .0 ∙ of-filing (now (call .args .0)) (now (call .args .1 .0)) (now (call .args .1 .1 .0)) in cc e
+unfolding fileAnswer
+file-told call = cc (call .kept .0)
 
 worst-told : (call : CWorstCall) → call .result ≡ worstRefusal (now (call .args .0)) (call .args .1 .0) (call .args .1 .1 .0)
-worst-told call = let e = call .kept ∙ of-naming (now (call .args .0)) (call .args .1 .0) (call .args .1 .1 .0) in cc e
+unfolding worstAnswer
+worst-told call = cc (call .kept)
 
 first : (cs : List Condition) (r : ℕ) → r ≡ firstOf cs → IsFirst cs r
 first cs r e = subst (IsFirst cs) (sym e) (first-of-is-first cs)
@@ -56,26 +59,24 @@ c-refusal-first = (
 -- ── beside a refusal
 
 empty-beside : (call : CEmptyCall) → (call .result ≡ 0 → ⊥) → (now (ends call .0) ≡ now (call .args .0)) × (now (ends call .1 .0) ≡ 0)
-unfolding emptyBytes
+unfolding emptyBytes emptyAnswer
 empty-beside call h =
     let b = now (call .args .0) in
     let n : emptyRefusal b ≡ 0 → ⊥ = (λ z. h (empty-told call ∙ z)) in
-    let e = call .kept .0 ∙ of-emptying b in
-    let u : now (ends call .1 .0) ≡ accepted (emptyRefusal b) trailerSize 0 = cc e in
+    let u : now (ends call .1 .0) ≡ accepted (emptyRefusal b) trailerSize 0 = cc (call .kept .0) in
     (call .kept .1 ∙ accepted-refused (emptyRefusal b) _ b n, u ∙ accepted-refused (emptyRefusal b) trailerSize 0 n)
 
 file-beside : (call : CFileCall) → (call .result ≡ 0 → ⊥)
     → (now (ends call .0) ≡ now (call .args .0)) × (now (ends call .1 .0) ≡ now (call .args .1 .0)) × (now (ends call .1 .1 .1 .0) ≡ 0)
-unfolding fileBytes
+unfolding fileBytes fileAnswer
 file-beside call h =
     let b = now (call .args .0) in
     let u = now (call .args .1 .0) in
     let c = now (call .args .1 .1 .0) in
     let r = fileRefusal b u c in
     let n : r ≡ 0 → ⊥ = (λ z. h (file-told call ∙ z)) in
-    let e = call .kept .0 ∙ of-filing b u c in
-    let v : now (ends call .1 .0) ≡ accepted r (usedLength recordSize (countAt b u + 1)) u = cc e in
-    let k : now (ends call .1 .1 .1 .0) ≡ accepted r (countAt b u) 0 = cc e in
+    let v : now (ends call .1 .0) ≡ accepted r (usedLength recordSize (countAt b u + 1)) u = cc (call .kept .0) in
+    let k : now (ends call .1 .1 .1 .0) ≡ accepted r (countAt b u) 0 = cc (call .kept .0) in
     (call .kept .1 ∙ accepted-refused r _ b n, v ∙ accepted-refused r _ u n, k ∙ accepted-refused r _ 0 n)
 
 show-beside : (call : CShowCall) → (call .result ≡ 0 → ⊥) → (now (ends call .1 .1 .1 .0) ≡ 0) × (now (ends call .1 .1 .1 .1 .0) ≡ 0)
@@ -86,13 +87,13 @@ show-beside call h =
     (call .kept .1 ∙ accepted-refused r _ 0 n, call .kept .2 ∙ accepted-refused r _ 0 n)
 
 worst-beside : (call : CWorstCall) → (call .result ≡ 0 → ⊥) → now (ends call .1 .1 .1 .0) ≡ 0
+unfolding worstAnswer
 worst-beside call h =
     let b = now (call .args .0) in
     let u = call .args .1 .0 in
     let m = call .args .1 .1 .0 in
     let r = worstRefusal b u m in
-    let e = call .kept ∙ of-naming b u m in
-    let k : now (ends call .1 .1 .1 .0) ≡ accepted r (worstOf m (linesIn b u)) 0 = cc e in
+    let k : now (ends call .1 .1 .1 .0) ≡ accepted r (worstOf m (linesIn b u)) 0 = cc (call .kept) in
     k ∙ accepted-refused r _ 0 (λ z. h (worst-told call ∙ z))
 
 -- Of work out the figures; of empty buffer and used length; of file these and the number; of show the place; of worst the number.

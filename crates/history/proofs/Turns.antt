@@ -17,11 +17,10 @@ use Rattle.emission.proofs.Demand2.{figure-bounds}
 use Rattle.records.specs.Layout.{Line, noLine, recordOf, trailer, trailerSize, usedLength, mostRecords, recordSize, edition, bytesAt}
 use Rattle.archive.specs.Conditions.{accepted}
 use Rattle.records.specs.Lines.{held}
-use Rattle.archive.specs.Answers.{Answer, emptied, shown, ofEmptied, ofFiling, ofHighest, handed}
+use Rattle.archive.specs.Answers.{Answer, emptied, shown, ofFiling, emptyAnswer, fileAnswer, worstAnswer, handed}
 use Rattle.history.specs.Ledger.{Request, empty, file, show, worst, judgedEmpty, fromLines, judgedFile, judgedShow, judgedWorst, answer, after}
-use Rattle.archive.specs.Archive.{emptyRefusals, emptyRefusal, emptying, emptyBytes, fileRefusal, filing, lineFor, fileBytes, showRefusals, showRefusal, showPart, worstRefusals, naming}
+use Rattle.archive.specs.Archive.{emptyRefusals, emptyRefusal, emptyBytes, fileRefusal, lineFor, fileBytes, showRefusals, showRefusal, showPart, worstRefusals}
 use Rattle.records.specs.Buffer.{written}
-use Rattle.history.proofs.AnswerLaws.{of-emptying, of-filing, of-naming}
 use Rattle.history.proofs.Demand1.{told-is}
 use Rattle.archive.proofs.Cases.{storable-line}
 use Rattle.records.proofs.Holding.{HoldsLines, count-is, sound-is, lines-are, record-is, length-emptied, emptied-holds, length-written, written-holds}
@@ -54,8 +53,8 @@ held-line c f e w =
 
 -- ── empty, on any buffer
 
-pub emptying-answer : {b : List ℕ} {a : Answer} {b′ : List ℕ} → EmptyTurn b a b′ → a ≡ emptied (emptyRefusal b) (accepted (emptyRefusal b) trailerSize 0)
-emptying-answer {b} t = t .says ∙ ap ofEmptied (t .call .kept .0 ∙ ap emptying (t .before)) ∙ of-emptying b
+pub emptying-answer : {b : List ℕ} {a : Answer} {b′ : List ℕ} → EmptyTurn b a b′ → a ≡ emptyAnswer b
+emptying-answer t = t .says ∙ t .call .kept .2 ∙ ap emptyAnswer (t .before)
 
 emptying-bytes : {b : List ℕ} {a : Answer} {b′ : List ℕ} → EmptyTurn b a b′ → b′ ≡ emptyBytes b
 emptying-bytes t = sym (t .after) ∙ t .call .kept .1 ∙ ap emptyBytes (t .before)
@@ -91,9 +90,9 @@ module _ {b : List ℕ} {u : ℕ} {ls : List Line} (h : HoldsLines b u ls) (g : 
       }
 
   worst-kept : {m : ℕ} {a : Answer} {b′ : List ℕ} → WorstTurn m b u a b′ → Kept (length b) u ls (worst m) a b′
-  unfolding answer after worstRefusals judgedWorst
+  unfolding answer after worstRefusals judgedWorst worstAnswer
   worst-kept {m} t =
-      let e = t .says ∙ ap ofHighest (t .call .kept ∙ λ i. naming (t .before i) (t .at i) (t .compartment i)) ∙ of-naming b u m in
+      let e : _ ≡ worstAnswer b u m = t .says ∙ t .call .kept .1 ∙ λ i. worstAnswer (t .before i) (t .at i) (t .compartment i) in
       record { answered = e ∙ rw (sound-is h, lines-are h, count-is h); stands = rw (e, sym (t .after) ∙ t .before) still }
 
   empty-stands : (t : Bool) → ltb (length b) trailerSize ≡ t
@@ -102,7 +101,7 @@ module _ {b : List ℕ} {u : ℕ} {ls : List Line} (h : HoldsLines b u ls) (g : 
   empty-stands false e = emptied-stands b (ltb-false (length b) trailerSize e)
 
   empty-kept : {a : Answer} {b′ : List ℕ} → EmptyTurn b a b′ → Kept (length b) u ls empty a b′
-  unfolding answer after emptyRefusals emptyBytes judgedEmpty
+  unfolding answer after emptyRefusals emptyBytes emptyAnswer judgedEmpty
   empty-kept t = record {
     answered = emptying-answer t;
     stands = rw (emptying-answer t, emptying-bytes t) (empty-stands (ltb (length b) trailerSize) refl);
@@ -138,9 +137,9 @@ module _ {b : List ℕ} {u : ℕ} {ls : List Line} (h : HoldsLines b u ls) (g : 
   file-stands c f (suc r) free fed = still
 
   file-kept : {c f : List ℕ} {a : Answer} {b′ : List ℕ} → FileTurn c f b u a b′ → Kept (length b) u ls (file c f) a b′
-  unfolding answer after fileBytes
+  unfolding answer after fileBytes fileAnswer
   file-kept {c} {f} t =
-      let e = t .says ∙ ap (λ r. ofFiling r u) (t .call .kept .0 ∙ λ i. filing (t .before i) (t .at i) (t .case i)) ∙ of-filing b u c in
+      let e : _ ≡ fileAnswer b u c = t .says ∙ ap (ofFiling (t .call .result)) (sym (t .at)) ∙ t .call .kept .2 ∙ λ i. fileAnswer (t .before i) (t .at i) (t .case i) in
       let o = sym (t .after) ∙ t .call .kept .1 ∙ λ i. fileBytes (t .before i) (t .at i) (t .case i) in
       record {
         answered = e ∙ rw (same-refusal c, count-is h, h .length-is);
@@ -160,7 +159,7 @@ kept c s t = rw (← s .size-is) (kept-of (s .holds) (s .held) c t)
 
 pub first-stands : {b : List ℕ} {v : ℕ} {b′ : List ℕ} → EmptyTurn b (emptied 0 v) b′
     → (emptied 0 v ≡ answer (length b) [] empty) × (after (length b) [] empty ≡ []) × Stands (length b) b′ v []
-unfolding answer after emptyRefusals emptyBytes judgedEmpty
+unfolding answer after emptyRefusals emptyBytes emptyAnswer judgedEmpty
 first-stands {b} {v} t =
     let e = emptying-answer t in
     let z : 0 ≡ emptyRefusal b = cc e in

@@ -24,6 +24,8 @@ use Rattle.archive.proofs.show_refusal.Kinds as show-refusal-kinds
 use Rattle.archive.proofs.show_refusal.Reads as show-refusal-reads
 use Rattle.archive.proofs.worst.Kinds as worst-kinds
 use Rattle.archive.proofs.worst.Reads as worst-reads
+use Rattle.archive.proofs.figures_of.Kinds as figures-of-kinds
+use Rattle.archive.proofs.figures_of.Reads as figures-of-reads
 
 abbrev pub EmptyCall : Type 0
 EmptyCall = Called 1 empty-kinds.ps empty-kinds.r empty-reads.Learnt
@@ -39,6 +41,9 @@ ShowRefusalCall = Called 1 show-refusal-kinds.ps show-refusal-kinds.r show-refus
 
 abbrev pub WorstCall : Type 0
 WorstCall = Called 1 worst-kinds.ps worst-kinds.r worst-reads.Learnt
+
+abbrev pub FiguresCall : Type 0
+FiguresCall = Called 1 figures-of-kinds.ps figures-of-kinds.r figures-of-reads.Learnt
 
 -- a call of show and one of its companion, with the same arguments
 pub record SameArguments (call : ShowCall) (told : ShowRefusalCall) : Type 0 where

@@ -1,4 +1,4 @@
--- What a reader of this crate must believe: definitions only. The theorems stand in proofs/: Demand1, Demand3, Interface, SingleCalls, FreeSpace, WorkedHistory.
+-- What a reader of this crate must believe: definitions only. The theorems stand in proofs/: Demand1, Demand3, Interface, SingleCalls, BytesLeft, FreeSpace, ShownFigures, WorkedHistory.
 pub mod Calls
 pub mod Ledger
 pub mod History

@@ -6,5 +6,6 @@ pub mod Stores
 pub mod Columns
 pub mod RecordLines
 pub mod Whole
+pub mod Printed
 pub mod Example
 pub mod AsksNothing

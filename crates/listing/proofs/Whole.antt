@@ -18,7 +18,7 @@ use Rattle.binary64.proofs.Bools.{neither}
 use Rattle.records.specs.Layout.{firstLines, recordSize}
 use Rattle.records.specs.Buffer.{countAt}
 use Rattle.records.proofs.Trailer.{sound-facts}
-use Rattle.listing.specs.Listing.{codes, header, refusal, linesText, mostOutput, refused, listingOf, listed, listedBytes}
+use Rattle.listing.specs.Listing.{codes, header, refusal, linesText, mostOutput, refused, listingOf, listed, ofListed, lengths, listedBytes}
 use Rattle.listing.specs.declared.Listed.{Listed}
 use Rattle.listing.specs.declared.Listed.the-variants.{Written, Needs}
 use Rattle.listing.proofs.RecordLines.{lines-at-most}
@@ -82,13 +82,14 @@ listing-written b o e n f g h =
 -- ── print
 
 pub listed-written : (b o : List ℕ) {n : ℕ} {q : List ℕ} → n ≡ length (listingOf b) → n ≤ length o → q ≡ splice o 0 (listingOf b)
-    → (Written n ≡ listed b (length o)) × (q ≡ listedBytes b o)
-unfolding listed listedBytes
-listed-written b o e h w = let t = le-leb (length (listingOf b)) (length o) (rw e at h) in rw t (ap Written e, w)
+    → (Written n ≡ listed b (length o)) × (q ≡ listedBytes b o) × (ofListed (Written n) ≡ lengths b (length o))
+unfolding listed listedBytes lengths
+listed-written b o e h w = let t = le-leb (length (listingOf b)) (length o) (rw e at h) in rw t (ap Written e, w, rw e)
 
-pub listed-needs : (b o : List ℕ) {n : ℕ} → n ≡ length (listingOf b) → length o < n → (Needs n ≡ listed b (length o)) × (o ≡ listedBytes b o)
-unfolding listed listedBytes
-listed-needs b o e h = let t = lt-leb (length (listingOf b)) (length o) (rw e at h) in rw t (ap Needs e, refl)
+pub listed-needs : (b o : List ℕ) {n : ℕ} → n ≡ length (listingOf b) → length o < n
+    → (Needs n ≡ listed b (length o)) × (o ≡ listedBytes b o) × (ofListed (Needs n) ≡ lengths b (length o))
+unfolding listed listedBytes lengths
+listed-needs b o e h = let t = lt-leb (length (listingOf b)) (length o) (rw e at h) in rw t (ap Needs e, refl, rw e)
 
 -- ── in a buffer that holds every listing
 

@@ -82,6 +82,19 @@ holds size b = leb (length (listingOf b)) size
 unfoldable pub listed : List ℕ → ℕ → Listed
 listed b size = cond (holds size b) (Written (length (listingOf b))) (Needs (length (listingOf b)))
 
+-- The answer in numbers: how many bytes were written at the start of the buffer, none where it is too short, and how many the listing has.
+pub record Lengths : Type 0 where
+  pub written : ℕ
+  pub needed : ℕ
+
+abbrev pub ofListed : Listed → Lengths
+ofListed (Written n) = record { written = n; needed = n }
+ofListed (Needs n) = record { written = 0; needed = n }
+
+-- what `print` gives in numbers
+unfoldable pub lengths : List ℕ → ℕ → Lengths
+lengths b size = record { written = cond (holds size b) (length (listingOf b)) 0; needed = length (listingOf b) }
+
 -- the buffer afterwards: the listing at its start and the rest as it was, or all as it was
 unfoldable pub listedBytes : List ℕ → List ℕ → List ℕ
 listedBytes b out = cond (holds (length out) b) (splice out 0 (listingOf b)) out

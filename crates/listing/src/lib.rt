@@ -4,7 +4,7 @@ ghost use mathlib.Core.Path.{_≡_};
 ghost use Prim.Native.Nat.{_≤_};
 ghost use lib.ListN.{length};
 ghost use Rattle.binary64.specs.Bytes.{splice};
-ghost use Rattle.listing.specs.Listing.{refused, listingOf, listed, listedBytes};
+ghost use Rattle.listing.specs.Listing.{refused, listingOf, listed, ofListed, lengths, listedBytes};
 use binary64::bytes::put_bytes;
 use records::count_at;
 use records::is_broken;
@@ -59,7 +59,7 @@ fn put_listing(out: &mut [u8], archive: &[u8])
 
 // Prints an archive, all of whose bytes are its used length. An output buffer that is too short is left as it was.
 pub fn print(archive: &[u8], out: &mut [u8]) -> Listed
-    ensures { λ r. ⌜ (r ≡ listed (now (archive .entry)) (length (now (out .entry)))) × (now (out .exit) ≡ listedBytes (now (archive .entry)) (now (out .entry))) ⌝ }
+    ensures { λ r. ⌜ (r ≡ listed (now (archive .entry)) (length (now (out .entry)))) × (now (out .exit) ≡ listedBytes (now (archive .entry)) (now (out .entry))) × (ofListed r ≡ lengths (now (archive .entry)) (length (now (out .entry)))) ⌝ }
 {
     let needed = listing_length(archive);
     if out.len() < needed {

@@ -1,5 +1,5 @@
 -- The fields cover the record, each byte once: `fields-cover`; those of the case are the fields that it is written by: `fields-of-case`.
--- Writing a line leaves each field's bytes at its offset: `written-field`.
+-- Writing a line leaves each field's bytes at its offset: `written-field`, and of any place in the case or of a figure `written-at`.
 use mathlib.Core.Path.{_≡_, refl, _∙_}
 use mathlib.Core.Bool.{Bool, true, _&&_}
 use mathlib.Core.List.{List, [], _∷_, _++_, append-assoc, map}
@@ -33,7 +33,7 @@ fields-of-case kind row route user t dossier a b c d e f = refl
 -- ── a field in the record of a line
 
 -- it lies in the case, or is the place of one of the four figures
-abbrev Placed : ℕ → ℕ → Source → Type 0
+abbrev pub Placed : ℕ → ℕ → Source → Type 0
 Placed o w given = o + w ≤ 64
 Placed o w (figureAt k) = (o ≡ 64 + 8 * k) × (w ≡ 8) × (k < 4)
 
@@ -83,7 +83,7 @@ read-back l vs ws at o w h k =
     rw (q, p, drop-append-add (take at l) (vs ++ (ws ++ r)) o, drop-append-le o vs (ws ++ r) (omega arith))
     (take-append-le w (drop o vs) (ws ++ r) (rw length-drop (omega arith)))
 
-written-at : (b : List ℕ) (n : ℕ) (l : Line) (o w : ℕ) (s : Source) → Sized l → recordSize * n ≤ length b → Placed o w s
+pub written-at : (b : List ℕ) (n : ℕ) (l : Line) (o w : ℕ) (s : Source) → Sized l → recordSize * n ≤ length b → Placed o w s
     → bytesAt (written b n l) (recordSize * n + o) w ≡ fieldBytes l o w s
 unfolding written
 written-at b n l o w s h a p =

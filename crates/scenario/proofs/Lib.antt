@@ -6,6 +6,7 @@ pub mod Limits
 pub mod FieldRanges
 pub mod QuantityRanges
 pub mod Ranges
+pub mod Said
 pub mod Sum
 pub mod Edges
 pub mod ReadBack

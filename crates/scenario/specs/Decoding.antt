@@ -1,7 +1,7 @@
 -- What a case of 64 bytes says: its kind with that kind's quantities, its row, route, user, T and dossier number.
 -- Paper 01, 'A form for each place': "A case is an enum over kinds; each case carries that kind's f64 quantities".
 use mathlib.Core.Bool.{cond}
-use mathlib.Core.List.{List}
+use mathlib.Core.List.{List, [], _∷_, map}
 use Prim.Native.Nat.{ℕ}
 use lib.Dec.{eqb}
 use lib.Ieee.{Float, binary64, ofBits}
@@ -42,3 +42,46 @@ headOf b = record { row = rowOf b; route = routeOf b; user = userOf b; count = c
 -- what `decode` answers
 unfoldable pub decoded : List ℕ → Decoded
 decoded b = cond (eqb (refusalOf b) 0) (Accepted (headOf b) (caseOf b)) (Refused (refusalOf b))
+
+-- ── what its answer says in the paper's numbers
+
+abbrev pub kindIn : Case → ℕ
+kindIn (Measured a b c s) = 1
+kindIn (Unknown a c s) = 2
+kindIn (Application a s) = 3
+kindIn (Sanitary a b c) = 4
+kindIn (Formulation a b c d e) = 5
+kindIn (Hygiene a b d e f) = 6
+kindIn (Toilets a b c d e) = 7
+
+-- what stands for a quantity that the kind does not carry
+abbrev pub nought : Float
+nought = ofBits binary64 0
+
+-- a to f
+abbrev pub quantitiesIn : Case → List Float
+quantitiesIn (Measured a b c s) = a ∷ b ∷ c ∷ s .area ∷ s .volume ∷ s .density ∷ []
+quantitiesIn (Unknown a c s) = a ∷ nought ∷ c ∷ s .area ∷ s .volume ∷ s .density ∷ []
+quantitiesIn (Application a s) = a ∷ nought ∷ nought ∷ s .area ∷ s .volume ∷ s .density ∷ []
+quantitiesIn (Sanitary a b c) = a ∷ b ∷ c ∷ nought ∷ nought ∷ nought ∷ []
+quantitiesIn (Formulation a b c d e) = a ∷ b ∷ c ∷ d ∷ e ∷ nought ∷ []
+quantitiesIn (Hygiene a b d e f) = a ∷ b ∷ nought ∷ d ∷ e ∷ f ∷ []
+quantitiesIn (Toilets a b c d e) = a ∷ b ∷ c ∷ d ∷ e ∷ nought ∷ []
+
+-- The refusal, 0 where the case is accepted; kind, row, route, user, T and dossier number; the quantities a to f. Beside a refusal there are no fields and no quantities.
+pub record Said : Type 0 where
+  pub refusal : ℕ
+  pub fields : List ℕ
+  pub quantities : List Float
+
+abbrev pub ofDecoded : Decoded → Said
+ofDecoded (Accepted h k) = record { refusal = 0; fields = kindIn k ∷ h .row ∷ h .route ∷ h .user ∷ h .count ∷ h .dossier ∷ []; quantities = quantitiesIn k }
+ofDecoded (Refused r) = record { refusal = r; fields = []; quantities = [] }
+
+-- what the bytes of a case say
+unfoldable pub said : List ℕ → Said
+said b = record {
+  refusal = refusalOf b;
+  fields = cond (eqb (refusalOf b) 0) (kindOf b ∷ rowOf b ∷ routeOf b ∷ userOf b ∷ countOf b ∷ dossierOf b ∷ []) [];
+  quantities = cond (eqb (refusalOf b) 0) (map (λ (i : ℕ). ofBits binary64 (patternAt b i)) (0 ∷ 1 ∷ 2 ∷ 3 ∷ 4 ∷ 5 ∷ [])) [];
+}

@@ -6,7 +6,7 @@ ghost use mathlib.Core.List.{_++_};
 ghost use Rattle.scenario.specs.Refusal.{firstOf};
 ghost use Rattle.scenario.specs.Case.{anyNotNumber, headRefusals, quantityRefusals};
 ghost use Rattle.scenario.specs.Patterns.{at};
-ghost use Rattle.scenario.specs.Decoding.{caseWith, caseOfPatterns, decoded};
+ghost use Rattle.scenario.specs.Decoding.{caseWith, caseOfPatterns, decoded, ofDecoded, said};
 use quantities::quantity_at;
 
 mod fields;
@@ -167,7 +167,7 @@ fn refusal_of(kind: u8, head: Head, p: &[u64; 6]) -> u32
 
 // What the case says, or the first refusal that holds.
 pub fn decode(case: &[u8]) -> Decoded
-    ensures { λ r. ⌜ r ≡ decoded (now (case .entry)) ⌝ }
+    ensures { λ r. ⌜ (r ≡ decoded (now (case .entry))) × (ofDecoded r ≡ said (now (case .entry))) ⌝ }
 {
     if case.len() != 64 {
         return Decoded::Refused(1);

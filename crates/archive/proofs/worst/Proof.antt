@@ -1,5 +1,5 @@
 -- The tests are those of the list of refusals, in its order; the number is the search's.
-use mathlib.Core.Path.{sym, ap, _∙_}
+use mathlib.Core.Path.{refl, sym, ap, _∙_}
 use Prim.Native.Nat.{ℕ}
 use native.Mathlib.Omega.{arith}
 use borrow.Author.Needs.{needs}
@@ -7,6 +7,7 @@ use borrow.Author.Tests.{eq-eqb, ne-eqb}
 use Rattle.records.specs.Layout.{firstLines, recordSize}
 use Rattle.records.specs.Lines.{worstOf}
 use Rattle.archive.specs.Archive.{worstRefusals, naming}
+use Rattle.archive.specs.Answers.{named, worstAnswer}
 use Rattle.archive.specs.declared.Highest.the-variants.{Number}
 use Rattle.archive.proofs.Refusals.{compartment-within}
 use Rattle.records.proofs.Trailer.{sound-facts}
@@ -14,27 +15,28 @@ use Rattle.archive.proofs.worst.Statement.{statement}
 use Rattle.archive.proofs.worst.Tie as tie
 
 returns : tie.Need-returns
-unfolding worstRefusals naming
-returns c = rw (c .if1 .taken)
+unfolding worstRefusals naming worstAnswer
+returns c = rw (c .if1 .taken) (refl, refl)
 
 returns-2 : tie.Need-returns-2
-unfolding worstRefusals naming
-returns-2 c = rw (c .before .before .if1 .left, sym (c .before .is-broken .ensures) ∙ c .if2 .taken)
+unfolding worstRefusals naming worstAnswer
+returns-2 c = rw (c .before .before .if1 .left, sym (c .before .is-broken .ensures) ∙ c .if2 .taken) (refl, refl)
 
 returns-3 : tie.Need-returns-3
-unfolding worstRefusals naming
+unfolding worstRefusals naming worstAnswer
 returns-3 c =
     let s = c .before .before in
-    rw (s .before .before .if1 .left, sym (s .before .is-broken .ensures) ∙ s .if2 .left, eq-eqb _ _ (sym (c .before .count-at .ensures) ∙ c .if3 .taken))
+    rw (s .before .before .if1 .left, sym (s .before .is-broken .ensures) ∙ s .if2 .left, eq-eqb _ _ (sym (c .before .count-at .ensures) ∙ c .if3 .taken)) (refl, refl)
 
 returns-4 : tie.Need-returns-4
-unfolding worstRefusals naming
+unfolding worstRefusals naming worstAnswer
 returns-4 c =
     let n = c .before .before in
     let s = n .before in
     let a = s .before .before .before .before .args in
+    let k = c .worst-of .ensures ∙ ap (λ (m : ℕ). worstOf (a .compartment) (firstLines recordSize m (a .archive .now))) (n .count-at .ensures) in
     rw (s .before .before .if1 .left, sym (s .before .is-broken .ensures) ∙ s .if2 .left, ne-eqb _ _ (λ e. c .before .if3 .left (n .count-at .ensures ∙ e)))
-    (ap Number (c .worst-of .ensures ∙ ap (λ (m : ℕ). worstOf (a .compartment) (firstLines recordSize m (a .archive .now))) (n .count-at .ensures)))
+    (ap Number k, ap (named 0) k)
 
 pub worst-spec : {M : Type 1} → statement M
 worst-spec =

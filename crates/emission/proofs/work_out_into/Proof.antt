@@ -12,7 +12,7 @@ emissions-of-requires c κs =
     let h = c .before in
     let d = h .before .before in
     let b = now (d .before .before .args .case) in
-    let a = accepted-is b _ _ (sym (d .decode .ensures) ∙ h .head .given .1) in
+    let a = accepted-is b _ _ (sym (d .decode .ensures .0) ∙ h .head .given .1) in
     rw (a .1, a .2) at (in-range b (a .0))
 
 returns : tie.Need-returns
@@ -20,7 +20,7 @@ returns c =
     let n = c .before .before in
     let d = n .before .before in
     let b = now (d .before .before .args .case) in
-    let r = refused-is b _ (sym (d .decode .ensures) ∙ n .number .given .1) in
+    let r = refused-is b _ (sym (d .decode .ensures .0) ∙ n .number .given .1) in
     (r .0, figures-refused b (r .1))
 
 returns-2 : tie.Need-returns-2
@@ -29,7 +29,7 @@ returns-2 c =
     let h = e .before .before in
     let d = h .before .before in
     let b = now (d .before .before .args .case) in
-    let a = accepted-is b _ _ (sym (d .decode .ensures) ∙ h .head .given .1) in
+    let a = accepted-is b _ _ (sym (d .decode .ensures .0) ∙ h .head .given .1) in
     (sym (a .0), c .by-route .ensures ∙ figures-accepted b _ _ _ _ _ (a .0) (a .1) (a .2) (e .emissions-of .ensures .0) (e .emissions-of .ensures .1) (e .emissions-of .ensures .2))
 
 pub work-out-into-spec : {M : Type 1} → statement M

@@ -4,13 +4,14 @@ use denote.Ref.{now}
 use borrow.Author.Needs.{needs}
 use Rattle.scenario.specs.Decoding.{caseOfPatterns}
 use Rattle.scenario.proofs.Refusals.{refusal-of-length, refusal-of-fields, numbers-accepted, decoded-accepted, decoded-refused}
+use Rattle.scenario.proofs.Said.{decoded-said}
 use Rattle.scenario.proofs.decode.Statement.{statement}
 use Rattle.scenario.proofs.decode.Tie as tie
 
 returns : tie.Need-returns
 returns c =
     let b = now (c .before .before .args .case) in
-    sym (decoded-refused b 1 (refusal-of-length b (c .if1 .taken)) (λ q. search needs))
+    decoded-said b (sym (decoded-refused b 1 (refusal-of-length b (c .if1 .taken)) (λ q. search needs)))
 
 returns-2 : tie.Need-returns-2
 returns-2 c =
@@ -20,7 +21,7 @@ returns-2 c =
     let l = h .before .before in
     let b = now (l .before .before .args .case) in
     let e = refusal-of-fields b (h .head-at .result) (p .patterns-at .result) (f .refusal-of .result) (l .if1 .left) (h .head-at .ensures) (p .patterns-at .ensures) (f .refusal-of .ensures) in
-    sym (decoded-refused b (f .refusal-of .result) e (c .if2 .taken))
+    decoded-said b (sym (decoded-refused b (f .refusal-of .result) e (c .if2 .taken)))
 
 case-of-requires : tie.Need-case-of-requires
 case-of-requires c κs =
@@ -42,7 +43,7 @@ returns-3 c =
     let l = h .before .before in
     let b = now (l .before .before .args .case) in
     let e = refusal-of-fields b (h .head-at .result) (p .patterns-at .result) (f .refusal-of .result) (l .if1 .left) (h .head-at .ensures) (p .patterns-at .ensures) (f .refusal-of .ensures) in
-    rw (c .case-of .ensures, h .head-at .ensures, p .patterns-at .ensures) (sym (decoded-accepted b (e ∙ z .if2 .left)))
+    decoded-said b (rw (c .case-of .ensures, h .head-at .ensures, p .patterns-at .ensures) (sym (decoded-accepted b (e ∙ z .if2 .left))))
 
 pub decode-spec : {M : Type 1} → statement M
 decode-spec =
