@@ -3,6 +3,7 @@
 #               proof, must-fail edit and program from nothing; the last line is the toolchain's 'N passed, M failed'
 # make check    the proofs, of what changed since the last run only, and the programs
 # make lib      the static library target/staticlib/libcsorvelin.a, proved before it is built
+# make list     the program target/bin/list, which prints an archive, proved before it is built
 # make host     the command host/target/release/csorvelin
 # make install  library, header, pkg-config file, command, manual page and bash completion under $(DESTDIR)$(PREFIX);
 #               PREFIX is /usr/local unless given
@@ -10,14 +11,15 @@
 # make fmt      lays out every .rt and .antt file
 # make clean    removes all that is built
 
-.PHONY: help test check trace lib c-test host host-test install-test run install bench fmt clean FORCE
+.PHONY: help test check trace lib list c-test host host-test install-test run install bench fmt clean FORCE
 .DEFAULT_GOAL := help
 SHELL := /bin/bash
 .SHELLFLAGS := -o pipefail -c
 
 CFLAGS = -std=c11 -O2 -Wall -Wextra -Wpedantic -Werror
 LIB = target/staticlib/libcsorvelin.a
-# What the library is proved and built from; rt itself takes of it what has changed.
+LIST = target/bin/list
+# What the library and the program are proved and built from; rt itself takes of it what has changed.
 SOURCES = crates.txt $(foreach depth,* */* */*/* */*/*/*,$(wildcard crates/*/src/$(depth).rt crates/*/specs/$(depth).antt \
     crates/*/proofs/$(depth).antt))
 # Without it the time of a peer's short loop depends on where the linker puts it.
@@ -58,13 +60,23 @@ trace:
 
 lib: $(LIB)
 
-# `rt check` proves crates side by side, `rt staticlib` one after another. What rt prints stands in target/lib.log; each
-# crate that it proves is said at once.
+list: $(LIST)
+
+# What rt prints stands in target/NAME.log; each crate that it proves is said at once.
+said = 2>&1 | tee target/$(1).log | { grep --line-buffered -E '^rt: .* proved \([0-9]' || true; } || { cat target/$(1).log; exit 1; }
+
+# `rt check` proves crates side by side, `rt staticlib` one after another.
 $(LIB): $(SOURCES) target/toolchain
 	@$(needs-rt)
 	@echo 'lib: proving what is not proved yet, two or three minutes from nothing'
-	@{ rt check emission archive && rt staticlib csorvelin && touch $@; } 2>&1 | tee target/lib.log | \
-	    { grep --line-buffered -E '^rt: .* proved \([0-9]' || true; } || { cat target/lib.log; exit 1; }
+	@{ rt check emission archive && rt staticlib csorvelin && touch $@; } $(call said,lib)
+
+# Behind the library, so that one rt is at work at a time. A program that was removed is not built again while it counts as
+# proved.
+$(LIST): $(SOURCES) target/toolchain | $(LIB)
+	@echo 'list: proving what is not proved yet, half a minute'
+	@[ -x $@ ] || rm -f target/stamp/list
+	@{ rt check list && touch $@; } $(call said,list)
 
 # The toolchain's identity: another one proves anew. Who installs what is built needs none.
 target/toolchain: FORCE
@@ -91,7 +103,7 @@ $(COMMAND): $(LIB) $(HOST_SOURCES)
 	@cargo build $(CARGO) -p csorvelin-cli
 	@touch $@
 
-host-test: $(LIB)
+host-test: $(LIB) $(LIST)
 	@$(needs-cargo)
 	@cargo test $(CARGO)
 

@@ -1,14 +1,18 @@
 -- `printed-example`: paper 01's printed example, one record, of case P1.
 -- `printed-none`: no record, the header alone; `printed-refusal`: no byte at all, the refusal alone.
 -- `printed-columns`: two records, the columns of the first all different, so that each field is seen to stand in its own column.
+-- `printed-long`, `printed-broken`, `printed-archive`: every input, in plain numbers: over 65,536 bytes, refused by 21, and all others.
 use mathlib.Core.Path.{_≡_, refl}
-use mathlib.Core.List.{List, [], _∷_}
-use Prim.Native.Nat.{ℕ}
+use mathlib.Core.Bool.{true, false}
+use mathlib.Core.List.{List, [], _∷_, _++_}
+use Prim.Native.Nat.{ℕ, _≤_, _<_}
+use borrow.Author.Tests.{lt-ltb, le-ltb}
+use lib.ListN.{length}
 use Rattle.natural.specs.Ceiling.{ceiling}
 use Rattle.binary64.specs.Bytes.{bytesOf, numberOf, numberAt}
 use Rattle.scenario.specs.Builder.{caseBytes, hundred, unit}
 use Rattle.records.specs.Layout.{figureBytes, recordOf, records, trailer, archiveOf, figuresIn, lineOf, firstLines, recordSize, edition}
-use Rattle.records.specs.Buffer.{broken}
+use Rattle.records.specs.Buffer.{broken, linesIn}
 use Rattle.listing.specs.Decimal.{digitsWithin, digits, decimal}
 use Rattle.listing.specs.Listing.{codes, header, refusal, refused, columnsOf, columnsText, lineText, linesText, listingOf}
 
@@ -38,3 +42,15 @@ printed-none = refl
 pub printed-refusal : listingOf [] ≡ codes "refused 21\n"
 unfolding listingOf refused broken refusal codes numberAt numberOf
 printed-refusal = refl
+
+pub printed-long : (w : List ℕ) → 65536 < length w → listingOf w ≡ codes "refused 21\n"
+unfolding listingOf refused refusal
+printed-long w h = rw (lt-ltb 65536 (length w) h)
+
+pub printed-broken : (w : List ℕ) → length w ≤ 65536 → broken w (length w) ≡ true → listingOf w ≡ codes "refused 21\n"
+unfolding listingOf refused refusal
+printed-broken w h e = rw (le-ltb 65536 (length w) h, e)
+
+pub printed-archive : (w : List ℕ) → length w ≤ 65536 → broken w (length w) ≡ false → listingOf w ≡ header ++ linesText 0 (linesIn w (length w))
+unfolding listingOf refused
+printed-archive w h e = rw (le-ltb 65536 (length w) h, e)

@@ -2,7 +2,7 @@
 --   length-line, line-written                                          a line: its number, then its columns
 --   recordAt, record-part, length-record                               record k as a part of the archive
 --   linesFrom, lines-start, lines-step, length-lines-step, lines-end   the lines from record k on
---   line-at-most, lines-at-most                                        bounds on lengths, of records that are bytes
+--   take-bytes, line-at-most, lines-at-most                            bounds on lengths, of records that are bytes
 -- What a line's columns are is in `Columns`.
 use mathlib.Core.Path.{_≡_, ap, _∙_}
 use mathlib.Core.List.{List, [], _∷_, _++_}
@@ -68,7 +68,7 @@ lines-end b n k h = let d : n - k ≡ 0 = omega arith in rw d
 
 -- ── bounds
 
-take-bytes : (n : ℕ) (b : List ℕ) → AreBytes b → AreBytes (take n b)
+pub take-bytes : (n : ℕ) (b : List ℕ) → AreBytes b → AreBytes (take n b)
 take-bytes zero b h i = omega arith
 take-bytes (suc n) [] h i = omega arith
 take-bytes (suc n) (x ∷ b) h zero = h zero

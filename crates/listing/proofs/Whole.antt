@@ -4,21 +4,24 @@
 --   listing-at-most                                       a bound on its length
 --   listing-written                                       the header, and the lines behind it
 --   listed-written, listed-needs                          what `print` answers and leaves
---   whole-written, whole-never-needs                      the same, where the buffer holds every listing
+--   first-decide, read-decides                            an input's first bytes, as a read leaves them, decide
+--   printed-fits, printed-text                            the bytes that are then to be written
 use mathlib.Core.Path.{_≡_, refl, sym, ap, _∙_}
 use mathlib.Core.Bool.{Bool, true, false}
 use mathlib.Core.List.{List, _++_}
 use Prim.Native.Nat.{ℕ, _+_, _*_, _≤_, _<_}
 use native.Mathlib.Omega.{arith}
-use borrow.Author.Tests.{ltb-false, le-leb, lt-leb}
-use lib.ListN.{length, take, length-append}
+use borrow.Author.Tests.{ltb-false, lt-ltb, leb-true, leb-false, le-leb, lt-leb}
+use lib.Dec.{leb}
+use lib.ListN.{length, take, drop, length-append, length-drop}
+use lib.Seq.{take-all, length-take-le}
 use Rattle.binary64.specs.Bytes.{AreBytes, splice}
-use Rattle.binary64.proofs.Splice.{length-splice, splice-join, splice-read}
+use Rattle.binary64.proofs.Splice.{splice-join, splice-read}
 use Rattle.binary64.proofs.Bools.{neither}
 use Rattle.records.specs.Layout.{firstLines, recordSize}
 use Rattle.records.specs.Buffer.{countAt}
 use Rattle.records.proofs.Trailer.{sound-facts}
-use Rattle.listing.specs.Listing.{codes, header, refusal, linesText, mostOutput, refused, listingOf, listed, ofListed, lengths, listedBytes}
+use Rattle.listing.specs.Listing.{codes, header, refusal, linesText, mostInput, mostOutput, refused, listingOf, listed, ofListed, lengths, listedBytes, ReadOf}
 use Rattle.listing.specs.declared.Listed.{Listed}
 use Rattle.listing.specs.declared.Listed.the-variants.{Written, Needs}
 use Rattle.listing.proofs.RecordLines.{lines-at-most}
@@ -91,21 +94,47 @@ pub listed-needs : (b o : List ℕ) {n : ℕ} → n ≡ length (listingOf b) →
 unfolding listed listedBytes lengths
 listed-needs b o e h = let t = lt-leb (length (listingOf b)) (length o) (rw e at h) in rw t (ap Needs e, refl, rw e)
 
--- ── in a buffer that holds every listing
+-- ── from a read
 
-module _ (b o : List ℕ) (r : Listed) (h : AreBytes b) (g : mostOutput ≤ length o) (e : r ≡ listed b (length o)) where
-  fits : length (listingOf b) ≤ length o
-  fits = omega (arith, listing-at-most b h)
+refused-long : (b : List ℕ) → mostInput < length b → refused b ≡ true
+unfolding refused
+refused-long b h = rw (lt-ltb mostInput (length b) h)
 
-  is-written : r ≡ Written (length (listingOf b))
-  is-written = e ∙ sym (listed-written b o refl fits refl .0)
+first-by : (k : ℕ) (w : List ℕ) → mostInput < k → (p : Bool) → leb (length w) k ≡ p → listingOf (take k w) ≡ listingOf w
+first-by k w h true e = ap listingOf (take-all k w (leb-true (length w) k e))
+first-by k w h false e =
+    let l = leb-false (length w) k e in
+    listing-refused (take k w) (refused-long (take k w) (omega (arith, length-take-le k w (omega arith))))
+    ∙ sym (listing-refused w (refused-long w (omega arith)))
 
-  pub whole-written : {n : ℕ} {q : List ℕ} → r ≡ Written n → q ≡ listedBytes b o → (take n q ≡ listingOf b) × ((n ≤ length q) × (n ≡ length (take n q)))
-  whole-written {n} {q} f w =
-      let m : n ≡ length (listingOf b) = cc is-written in
-      let s : q ≡ splice o 0 (listingOf b) = w ∙ sym (listed-written b o refl fits refl .1) in
-      let t : take n q ≡ listingOf b = rw (m, s) (splice-read o 0 (listingOf b) (omega arith)) in
-      (t, (omega (arith, fits, ap length s, length-splice o 0 (listingOf b) (omega (arith, fits))), rw t m))
+-- The first bytes of an input decide, where one more is taken than an archive may have: no byte behind them changes what is printed.
+pub first-decide : (k : ℕ) (w : List ℕ) → mostInput < k → listingOf (take k w) ≡ listingOf w
+first-decide k w h = first-by k w h (leb (length w) k) refl
 
-  pub whole-never-needs : {n : ℕ} → r ≡ Needs n → ⊥
-  whole-never-needs f = let z : _≡_ {A = ℕ} 0 1 = cc is-written in omega arith
+pub read-decides : (b : List ℕ) (n : ℕ) (w : List ℕ) → mostInput < length b → ReadOf b n w → listingOf (take n b) ≡ listingOf w
+read-decides b n w h e = ap listingOf e ∙ first-decide (length b) w h
+
+-- ── what a caller of `print_input` may use
+
+-- every read is one of some input
+read-of-some : (b : List ℕ) (n : ℕ) → n ≤ length b → ReadOf b n (take n b)
+read-of-some b n h = sym (take-all (length b) (take n b) (omega (arith, length-take-le n b h)))
+
+-- a buffer that keeps its length has room for what it is stated to begin with
+splice-fits : (out after text : List ℕ) → length after ≡ length out → after ≡ splice out 0 text → length text ≤ length out
+unfolding splice
+splice-fits out after text k e =
+    let l : length (splice out 0 text) ≡ length text + length (drop (0 + length text) out) = length-append text (drop (0 + length text) out) in
+    omega (arith, ap length e, length-drop (0 + length text) out)
+
+module _ (b out after : List ℕ) (n r : ℕ) (inside : n ≤ length b) (kept : length after ≡ length out)
+    (e : (whole : List ℕ) → ReadOf b n whole → (r ≡ length (listingOf whole)) × (after ≡ splice out 0 (listingOf whole))) where
+  pub printed-fits : r ≤ length after
+  printed-fits =
+      let s = e (take n b) (read-of-some b n inside) in
+      omega (arith, s .0, splice-fits out after (listingOf (take n b)) kept (s .1))
+
+  pub printed-text : (whole : List ℕ) → ReadOf b n whole → take r after ≡ listingOf whole
+  printed-text whole h =
+      let s = e whole h in
+      rw (s .0, s .1) (splice-read out 0 (listingOf whole) (omega (arith, splice-fits out after (listingOf whole) kept (s .1))))

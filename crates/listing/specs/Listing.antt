@@ -1,11 +1,12 @@
 -- The printed archive, as bytes. Paper 01, 'The printed archive'.
+use mathlib.Core.Path.{_≡_}
 use mathlib.Core.Bool.{Bool, _||_, cond}
 use mathlib.Core.List.{List, [], _∷_, _++_, map}
 use Prim.Native.Nat.{ℕ, _+_}
 use Prim.Native.Char.{code}
 use Prim.Native.String.{String, [] as none, _∷_ as _then_}
 use lib.Dec.{ltb, leb}
-use lib.ListN.{length}
+use lib.ListN.{length, take}
 use Rattle.natural.specs.Ceiling.{ceiling}
 use Rattle.binary64.specs.Bytes.{splice}
 use Rattle.scenario.specs.Case.{kindOf, rowOf, routeOf, dossierOf}
@@ -56,7 +57,7 @@ unfoldable pub linesText : ℕ → List Line → List ℕ
 linesText k [] = []
 linesText k (l ∷ ls) = lineText k l ++ linesText (k + 1) ls
 
--- the most bytes that are read
+-- the most bytes that a printed archive has
 abbrev pub mostInput : ℕ
 mostInput = 65536
 
@@ -68,7 +69,7 @@ mostOutput = 74384
 unfoldable pub refused : List ℕ → Bool
 refused b = ltb mostInput (length b) || broken b (length b)
 
--- The listing of an input: every byte that is to be printed.
+-- The listing of an input, of all its bytes: every byte that is to be printed.
 unfoldable pub listingOf : List ℕ → List ℕ
 listingOf b = cond (refused b) refusal (header ++ linesText 0 (linesIn b (length b)))
 
@@ -98,3 +99,9 @@ lengths b size = record { written = cond (holds size b) (length (listingOf b)) 0
 -- the buffer afterwards: the listing at its start and the rest as it was, or all as it was
 unfoldable pub listedBytes : List ℕ → List ℕ → List ℕ
 listedBytes b out = cond (holds (length out) b) (splice out 0 (listingOf b)) out
+
+-- ── from a read
+
+-- n bytes at the start of a buffer are what a read of the whole input leaves there: its first bytes, as many as it has and the buffer takes
+abbrev pub ReadOf : List ℕ → ℕ → List ℕ → Type 0
+ReadOf buffer n whole = take n buffer ≡ take (length buffer) whole

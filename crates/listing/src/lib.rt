@@ -1,10 +1,11 @@
 // The printed archive: a header, then a line for each record, into a lent buffer. Total: input that refusal 21 meets, or that is too long,
 // is printed as `refused 21`.
 ghost use mathlib.Core.Path.{_≡_};
-ghost use Prim.Native.Nat.{_≤_};
+ghost use mathlib.Core.List.{List};
+ghost use Prim.Native.Nat.{ℕ, _≤_, _<_};
 ghost use lib.ListN.{length};
 ghost use Rattle.binary64.specs.Bytes.{splice};
-ghost use Rattle.listing.specs.Listing.{refused, listingOf, listed, ofListed, lengths, listedBytes};
+ghost use Rattle.listing.specs.Listing.{mostInput, mostOutput, refused, listingOf, listed, ofListed, lengths, listedBytes, ReadOf};
 use binary64::bytes::put_bytes;
 use records::count_at;
 use records::is_broken;
@@ -67,4 +68,17 @@ pub fn print(archive: &[u8], out: &mut [u8]) -> Listed
     }
     put_listing(out, archive);
     Listed::Written(needed as u64)
+}
+
+// Prints a program's input, of which a read left n bytes at the start of a buffer: whatever the whole input is, its listing stands at the start
+// of the output buffer, and its length is the answer. The input buffer has room for one byte more than an archive may have, so that longer
+// input is seen to be longer, and the output buffer for every listing.
+pub fn print_input(input: &[u8], n: usize, out: &mut [u8]) -> usize
+    requires { ⌜ (mostInput < length (now input)) × (n ≤ length (now input)) × (mostOutput ≤ length (now out)) ⌝ }
+    ensures { λ r. ⌜ ((whole : List ℕ) → ReadOf (now (input .entry)) n whole → (r ≡ length (listingOf whole)) × (now (out .exit) ≡ splice (now (out .entry)) 0 (listingOf whole))) ⌝ }
+{
+    let archive = &input[..n];
+    let length = listing_length(archive);
+    put_listing(out, archive);
+    length
 }
