@@ -11,7 +11,7 @@
 # make fmt      lays out every .rt and .antt file
 # make clean    removes all that is built
 
-.PHONY: help test check trace lib list c-test host host-test install-test run install bench fmt clean FORCE
+.PHONY: help test check trace results lib list c-test host host-test install-test run install bench fmt clean FORCE
 .DEFAULT_GOAL := help
 SHELL := /bin/bash
 .SHELLFLAGS := -o pipefail -c
@@ -45,7 +45,7 @@ comma = ,
 help:
 	@while IFS= read -r line && [[ $$line == '#'* ]]; do echo "$${line#??}"; done <Makefile
 
-test: trace c-test host-test install-test
+test: trace results c-test host-test install-test
 	@$(needs-rt)
 	@rt fmt --check
 	@rt ci
@@ -57,6 +57,10 @@ check:
 # The names in docs/TRACE.md and docs/ARCHITECTURE.md are those of the code.
 trace:
 	@tests/trace
+
+# Each function that returns something says by an equation what.
+results:
+	@tests/results
 
 lib: $(LIB)
 

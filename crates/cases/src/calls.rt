@@ -1,4 +1,8 @@
 // The calls, a line printed for each.
+ghost use mathlib.Core.Path.{_≡_};
+ghost use Rattle.archive.specs.Answers.{ofEmptied, ofFiling};
+ghost use Rattle.archive.specs.Archive.{emptying, emptyBytes, filing, fileBytes};
+ghost use Rattle.cases.specs.Calls.{usedIn, torn};
 use archive::Emptied;
 use archive::Filing;
 use archive::Highest;
@@ -35,7 +39,9 @@ pub fn work_out(case: &[u8]) {
 }
 
 // The used length afterwards.
-pub fn empty(archive: &mut [u8]) -> u64 {
+pub fn empty(archive: &mut [u8]) -> u64
+    ensures { λ r. ⌜ (r ≡ usedIn (ofEmptied (emptying (now (archive .entry)))) 0) × (now (archive .exit) ≡ emptyBytes (now (archive .entry))) ⌝ }
+{
     match archive::empty(archive) {
         Emptied::Used(length) => {
             write_number(b": used ", length);
@@ -49,7 +55,9 @@ pub fn empty(archive: &mut [u8]) -> u64 {
 }
 
 // The used length afterwards.
-pub fn file(archive: &mut [u8], used: u64, case: &[u8]) -> u64 {
+pub fn file(archive: &mut [u8], used: u64, case: &[u8]) -> u64
+    ensures { λ r. ⌜ (r ≡ usedIn (ofFiling (filing (now (archive .entry)) used (now (case .entry))) used) used) × (now (archive .exit) ≡ fileBytes (now (archive .entry)) used (now (case .entry))) ⌝ }
+{
     match archive::file(archive, used, case) {
         Filing::Filed {
             number,
@@ -93,7 +101,9 @@ pub fn worst(archive: &[u8], used: u64, compartment: u64) {
 }
 
 // Another byte at a place.
-pub fn tear(archive: &mut [u8], at: u64) {
+pub fn tear(archive: &mut [u8], at: u64)
+    ensures { λ _. ⌜ now (archive .exit) ≡ torn at (now (archive .entry)) ⌝ }
+{
     if at < archive.len() as u64 {
         archive[at as usize] = 97;
     }

@@ -3,6 +3,8 @@
 ghost use mathlib.Core.Path.{_≡_};
 ghost use Prim.Native.Nat.{_≤_};
 ghost use lib.ListN.{length};
+ghost use Rattle.cases.specs.Calls.{sizeAfter, usedAfter, bytesAfter, sizeBy, usedBy, bufferBy, sizeOn, usedOn, bufferOn, bufferAfter};
+ghost use Rattle.cases.specs.Words.{linesOf};
 
 mod calls;
 mod fields;
@@ -10,15 +12,13 @@ mod lists;
 mod numbers;
 mod words;
 
-use bytes::scan::find;
+use binary64::bytes::u8_at;
+use binary64::bytes::u64_at;
 use calls::write;
-use check::same;
-use fields::length_of;
 use fields::set_fields;
 use libc::STDIN_FILENO;
-use numbers::Read;
 use numbers::least;
-use numbers::number;
+use words::first;
 use words::index_of;
 
 // How many bytes of the buffer are the archive, and how many of these are used.
@@ -27,95 +27,76 @@ struct State {
     used: u64,
 }
 
-// Some bytes further, up to the end.
-fn behind(at: usize, n: usize, end: usize) -> usize
-    requires { ⌜ at ≤ end ⌝ }
-    ensures { λ r. ⌜ (at ≤ r) × (r ≤ end) ⌝ }
-{
-    if end - at < n { end } else { at + n }
-}
-
-// A call with a number, and the used length after it.
-fn with_number(command: &[u8], x: u64, archive: &mut [u8], used: u64) -> u64 {
-    match index_of(command, b"empty used fill tear show worst list") {
-        0 => calls::empty(archive),
-        1 => x,
-        2 => lists::fill(archive, x),
-        3 => {
-            calls::tear(archive, x);
-            used
-        }
-        4 => {
-            calls::show(archive, used, x);
-            used
-        }
-        5 => {
-            calls::worst(archive, used, x);
-            used
-        }
-        6 => {
-            lists::list(archive, used, x);
-            used
-        }
-        _ => {
-            write(b": no such call");
-            used
-        }
+// A call that leaves all as it was, by its place among the names.
+fn ask(call: usize, x: u64, case: &[u8], archive: &[u8], used: u64) {
+    match call {
+        6 => calls::show(archive, used, x),
+        7 => calls::worst(archive, used, x),
+        8 => lists::list(archive, used, x),
+        9 => calls::work_out(case),
+        _ => write(b": no such call"),
     }
 }
 
-// A call with a case, and the used length after it.
-fn with_case(command: &[u8], case: &[u8], archive: &mut [u8], used: u64) -> u64
-    requires { ⌜ length (now case) ≡ 97 ⌝ }
+// A call by its place among the names, and the used length after it.
+fn used_after(call: usize, fields: &[u8], archive: &mut [u8], used: u64) -> u64
+    requires { ⌜ length (now fields) ≡ 105 ⌝ }
+    ensures { λ r. ⌜ (r ≡ usedAfter call (now (fields .entry)) (now (archive .entry)) used) × (now (archive .exit) ≡ bytesAfter call (now (fields .entry)) (now (archive .entry)) used) ⌝ }
 {
-    let n = length_of(case);
-    match index_of(command, b"work-out file record") {
-        0 => {
-            calls::work_out(&case[0..n]);
-            used
-        }
-        1 => calls::file(archive, used, &case[0..n]),
-        2 => lists::record(archive, used, &case[0..96]),
-        _ => {
-            write(b": no such call");
-            used
-        }
+    let x = u64_at(fields, 0);
+    let record = &fields[8..104];
+    let n = least(u8_at(fields, 104) as u64, 96);
+    let case = &record[..n];
+    if call == 0 {
+        return calls::empty(archive);
     }
-}
-
-fn with_fields(command: &[u8], text: &[u8], archive: &mut [u8], used: u64) -> u64 {
-    let mut case = [0u8; 97];
-    case[2] = 1;
-    case[96] = 64;
-    if !set_fields(&mut case, text) {
-        write(b": malformed");
+    if call == 1 {
+        return x;
+    }
+    if call == 2 {
+        return lists::fill(archive, x);
+    }
+    if call == 3 {
+        return calls::file(archive, used, case);
+    }
+    if call == 4 {
+        return lists::record(archive, used, record);
+    }
+    if call == 5 {
+        calls::tear(archive, x);
         return used;
     }
-    with_case(command, &case, archive, used)
-}
-
-fn on_archive(command: &[u8], text: &[u8], archive: &mut [u8], used: u64) -> u64 {
-    match number(text) {
-        Read::Number(x) => with_number(command, x, archive, used),
-        Read::Nothing => with_fields(command, text, archive, used),
-    }
+    ask(call, x, case, archive, used);
+    used
 }
 
 // `empty` says how many bytes of the buffer are the archive from then on.
-fn size_after(command: &[u8], text: &[u8], size: u64) -> u64 {
-    if !same(command, b"empty") {
-        return size;
-    }
-    let Read::Number(x) = number(text) else {
-        return size;
-    };
-    x
+fn size_after(call: usize, x: u64, size: u64) -> u64
+    ensures { λ r. ⌜ r ≡ sizeAfter call x size ⌝ }
+{
+    if call == 0 { x } else { size }
 }
 
-fn call(command: &[u8], text: &[u8], buffer: &mut [u8], s: State) -> State {
-    let size = size_after(command, text, s.size);
+// A call's name and the words behind it.
+fn by_text(text: &[u8], buffer: &mut [u8], s: State) -> State
+    ensures { λ r. ⌜ (r .size ≡ sizeBy (now (text .entry)) (s .size)) × (r .used ≡ usedBy (now (text .entry)) (now (buffer .entry)) (s .size) (s .used)) × (now (buffer .exit) ≡ bufferBy (now (text .entry)) (now (buffer .entry)) (s .size) (s .used)) ⌝ }
+{
+    let gap = first(text, b' ');
+    let start = least(gap as u64 + 1, text.len());
+    let mut fields = [0u8; 105];
+    fields[10] = 1;
+    fields[104] = 64;
+    if !set_fields(&mut fields, &text[start..]) {
+        write(b": malformed");
+        return s;
+    }
+    let call = index_of(
+        &text[..gap],
+        b"empty used fill file record tear show worst list work-out",
+    );
+    let size = size_after(call, u64_at(&fields, 0), s.size);
     let n = least(size, buffer.len());
-    let used = on_archive(command, text, &mut buffer[0..n], s.used);
+    let used = used_after(call, &fields, &mut buffer[..n], s.used);
     State { size, used }
 }
 
@@ -127,46 +108,33 @@ fn write_name(text: &[u8], sign: usize)
         write(text);
         return;
     }
-    let label = behind(sign, 2, text.len());
+    let label = least(sign as u64 + 2, text.len());
     write(&text[label..]);
 }
 
-// The place before the space in front of a label.
-fn trimmed(text: &[u8], start: usize, end: usize) -> usize
-    requires { ⌜ (start ≤ end) × (end ≤ length (now text)) ⌝ }
-    ensures { λ r. ⌜ (start ≤ r) × (r ≤ end) ⌝ }
+fn line(text: &[u8], buffer: &mut [u8], s: State) -> State
+    ensures { λ r. ⌜ (r .size ≡ sizeOn (now (text .entry)) (s .size)) × (r .used ≡ usedOn (now (text .entry)) (now (buffer .entry)) (s .size) (s .used)) × (now (buffer .exit) ≡ bufferOn (now (text .entry)) (now (buffer .entry)) (s .size) (s .used)) ⌝ }
 {
-    if start < end {
-        if text[end - 1] == b' ' {
-            return end - 1;
-        }
-    }
-    end
-}
-
-fn line(text: &[u8], buffer: &mut [u8], s: State) -> State {
-    let sign = find(text, 0, text.len(), b'#');
+    let sign = first(text, b'#');
     if sign == 0 {
         return s;
     }
     write_name(text, sign);
-    let gap = find(text, 0, sign, b' ');
-    let start = behind(gap, 1, sign);
-    let end = trimmed(text, start, sign);
-    let after = call(&text[0..gap], &text[start..end], buffer, s);
+    let after = by_text(&text[..sign], buffer, s);
     write(b"\n");
     after
 }
 
 fn run(text: &[u8], buffer: &mut [u8])
-    requires { ⌜ length (now text) ≤ 65536 ⌝ }
+    ensures { λ _. ⌜ now (buffer .exit) ≡ bufferAfter (linesOf (now (text .entry))) (now (buffer .entry)) 0 0 ⌝ }
 {
     let mut s = State { size: 0, used: 0 };
     let mut at = 0;
     while at < text.len() {
-        let end = find(text, at, text.len(), b'\n');
-        s = line(&text[at..end], buffer, s);
-        at = end + 1;
+        let rest = &text[at..];
+        let end = first(rest, b'\n');
+        s = line(&rest[..end], buffer, s);
+        at += end + 1;
     }
 }
 

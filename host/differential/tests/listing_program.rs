@@ -12,10 +12,10 @@ use std::path::{Path, PathBuf};
 use std::process::{Command, Output, Stdio};
 use std::thread;
 
-/// Another program in its place: `LIST_PROGRAM`.
+/// Another program in its place: `CSORVELIN_LIST`.
 fn program() -> PathBuf {
     let built = || Path::new(env!("CARGO_MANIFEST_DIR")).join("../../target/bin/list");
-    let path = env::var_os("LIST_PROGRAM").map_or_else(built, PathBuf::from);
+    let path = env::var_os("CSORVELIN_LIST").map_or_else(built, PathBuf::from);
     assert!(path.is_file(), "{} is not there: `make list` builds it", path.display());
     path
 }

@@ -1,0 +1,34 @@
+-- Lines as text, computed: the case, the call and the state that the definitions make of them.
+use mathlib.Core.Path.{_≡_, refl}
+use mathlib.Core.Bool.{true, false}
+use mathlib.Core.List.{List}
+use Prim.Native.Nat.{ℕ}
+use Rattle.bytes.specs.Bytes.{indexOf, indexAfter}
+use Rattle.binary64.specs.Bytes.{bytesOf, numberOf, numberAt, splice}
+use Rattle.scenario.specs.Builder.{caseBytes, hundred, unit}
+use Rattle.listing.specs.Listing.{codes}
+use Rattle.cases.specs.Words.{onto, partsOf, sameWord, placeIn}
+use Rattle.cases.specs.Numbers.{digitOf, valueFrom, valueIn, isHexadecimal, numberIn}
+use Rattle.cases.specs.Fields.{fieldNames, fieldAt, widthOf, fieldOf, valueOf, fits, withNumber, areFields, withFields, caseIn}
+use Rattle.cases.specs.Calls.{callNames, callIn, wordsIn, blank, fieldsIn, sizeAfter, sizeBy, sizeOn}
+
+-- P1 of paper 01
+abbrev pub p1 : List ℕ
+p1 = codes "file kind=4 row=1 dossier=7 a=0x4059000000000000 c=0x3ff0000000000000"
+
+pub case-of-p1 : caseIn (fieldsIn p1) ≡ caseBytes 4 1 1 0 0 7 hundred 0 unit 0 0 0
+unfolding codes caseBytes bytesOf numberOf numberAt splice indexOf indexAfter onto partsOf sameWord placeIn digitOf valueFrom valueIn isHexadecimal numberIn fieldNames fieldAt widthOf fieldOf valueOf withNumber withFields blank
+case-of-p1 = refl
+
+pub call-of-p1 : (callIn p1 ≡ 3) × (areFields (wordsIn p1) ≡ true)
+unfolding codes indexOf indexAfter onto partsOf sameWord placeIn callNames digitOf valueFrom valueIn isHexadecimal numberIn fieldNames widthOf fieldOf valueOf fits areFields
+call-of-p1 = (refl, refl)
+
+-- a number too large for its field, and an archive of 304 bytes from then on, with a label behind it
+pub not-a-field : areFields (wordsIn (codes "work-out kind=256")) ≡ false
+unfolding codes indexOf indexAfter onto partsOf sameWord placeIn digitOf valueFrom valueIn isHexadecimal numberIn fieldNames widthOf fieldOf valueOf fits areFields
+not-a-field = refl
+
+pub size-of-empty : sizeOn (codes "empty 304 # three records") 16 ≡ 304
+unfolding codes sizeOn sizeBy sizeAfter callNames blank bytesOf numberOf numberAt splice indexOf indexAfter onto partsOf sameWord placeIn digitOf valueFrom valueIn isHexadecimal numberIn fieldNames fieldAt widthOf fieldOf valueOf fits withNumber areFields withFields
+size-of-empty = refl
