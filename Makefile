@@ -109,7 +109,7 @@ $(COMMAND): $(LIB) $(HOST_SOURCES)
 
 host-test: $(LIB) $(LIST)
 	@$(needs-cargo)
-	@cargo test $(CARGO)
+	@env -u CSORVELIN_LIB -u CSORVELIN_LIST cargo test $(CARGO)
 
 install: host
 	@install -d '$(to)'/{bin,lib/pkgconfig,include,share/man/man1,share/bash-completion/completions}

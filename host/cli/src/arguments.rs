@@ -6,6 +6,7 @@ use crate::numbers;
 use crate::paths::shown;
 use crate::store;
 use csorvelin_binding::Case;
+use csorvelin_model::case::QUANTITIES;
 use std::ffi::{OsStr, OsString};
 use std::os::unix::ffi::OsStrExt;
 use std::time::Duration;
@@ -88,14 +89,13 @@ pub struct Given {
 }
 
 pub const FIELDS: [&str; 12] = ["kind", "row", "route", "user", "T", "dossier", "a", "b", "c", "d", "e", "f"];
-const QUANTITIES: [&str; 6] = ["a", "b", "c", "d", "e", "f"];
 
 /// What helps where a file name was taken for a field.
 const NAME_WITH_EQUALS: &str = "a file name with = goes behind -- or is written with its folder, as ./a=b";
 
 /// The place of a quantity among the six.
 pub fn quantity_index(name: &str) -> Option<usize> {
-    QUANTITIES.iter().position(|&quantity| quantity == name)
+    QUANTITIES.iter().position(|&quantity| name.chars().eq([quantity]))
 }
 
 fn usage<T>(message: String) -> Result<T, Failure> {

@@ -2,7 +2,7 @@
 
 use crate::arguments::{Given, FIELDS};
 use crate::describe::{counted, FIGURE_NAMES};
-use crate::numbers;
+use crate::numbers::{self, shortened};
 use csorvelin_binding::{Case, Figures, Record};
 use csorvelin_model::archive::MOST_RECORDS;
 use csorvelin_model::binary64;
@@ -79,13 +79,13 @@ impl Row {
         let mut figures = figures.filter_map(|((name, text), figure)| Some((name, text.as_ref()?, figure)));
         let figure = figures.find(|(_, text, figure)| numbers::whole(text, u64::MAX) != Ok(*figure));
         if let Some((name, text, figure)) = figure {
-            return Some(format!("{name} is {text} µg in the line, its case gives {figure} µg"));
+            return Some(format!("{name} is {} µg in the line, its case gives {figure} µg", shortened(text)));
         }
         let exact = QUANTITIES.iter().zip(&self.exact).zip(case.patterns);
         let mut exact = exact.filter_map(|((name, text), pattern)| Some((name, text.as_ref()?, pattern)));
         let (name, text, pattern) = exact.find(|(_, text, pattern)| numbers::exact_pattern(*pattern) != **text)?;
         let taken = numbers::exact_pattern(pattern);
-        Some(format!("{name}_exact is {text} in the line, but {name} is taken as {taken}"))
+        Some(format!("{name}_exact is {} in the line, but {name} is taken as {taken}", shortened(text)))
     }
 }
 
@@ -116,6 +116,8 @@ impl<R: BufRead> Rows<R> {
         if cells.iter().all(String::is_empty) {
             return Ok(None);
         }
+        // Before all that is wrong with one line alone: it makes the other lines doubtful.
+        decimal_points(&cells)?;
         if cells.len() != self.header.len() {
             let (cells, columns) = (counted(cells.len() as u64, "cell"), self.header.len());
             return Err(Fault::Line(format!("the line has {cells}, the header {columns}")));
@@ -127,7 +129,6 @@ impl<R: BufRead> Rows<R> {
         if self.header.iter().zip(&cells).any(|(name, cell)| name.is_empty() && !cell.is_empty()) {
             return Err(Fault::Line("a cell stands under a column without a name".to_string()));
         }
-        decimal_points(&cells)?;
         let fields = FIELDS.iter().filter_map(|name| Some((name.to_string(), filled(name)?)));
         Ok(Some(Row {
             given: Given::of_fields(&fields.collect::<Vec<_>>()).map_err(Fault::Line)?,
@@ -143,6 +144,7 @@ fn decimal_points(cells: &[String]) -> Result<(), Fault> {
         |cell: &&String| cell.contains(',') && cell.bytes().all(|byte| b"0123456789.,+-eE".contains(&byte));
     match cells.iter().find(number_with_comma) {
         Some(cell) => {
+            let cell = shortened(cell);
             Err(Fault::File(format!("{cell} has a decimal comma: write points, and no thousands separators")))
         }
         None => Ok(()),
@@ -183,7 +185,7 @@ fn header_of(line: &str) -> Result<(char, Vec<String>), String> {
 /// The name of a column, in any letter case.
 fn column(name: &str) -> Result<String, String> {
     let column = columns().into_iter().chain([String::new()]).find(|column| column.eq_ignore_ascii_case(name));
-    column.ok_or(format!("there is no column '{name}': the columns are {}", columns().join(", ")))
+    column.ok_or(format!("there is no column '{}': the columns are {}", shortened(name), columns().join(", ")))
 }
 
 /// Lines that are not blank, with their numbers, each of a bounded length.
@@ -308,9 +310,16 @@ mod tests {
         // A decimal comma makes every point doubtful.
         let lines = rows("kind;a\n4;1.250\n4;950,5\n");
         assert!(lines[0].1.is_ok() && lines[1].1.as_ref().is_err_and(|words| words.starts_with("file: 950,5 ")));
+        // In a line that is wrong in another way too.
+        assert!(rows("kind;a\n4;950,5;7\n")[0].1.as_ref().is_err_and(|words| words.starts_with("file: 950,5 ")));
         for text in ["", "kind,colour\n", "kind,KIND\n", "kind,\"a\n"] {
             assert!(Rows::new(text.as_bytes()).is_err(), "{text}");
         }
+        // A message keeps no more of a cell than a line has room for.
+        let long = "9".repeat(60_000);
+        let row = Rows::new(format!("kind,stp\n4,{long}\n").as_bytes()).unwrap().next().unwrap().1.ok().unwrap();
+        assert!(row.fault(&Case::from_bytes(&[0; 64]), Figures::default()).unwrap().len() < 200);
+        assert!(Rows::new(format!("{long}\n").as_bytes()).err().unwrap().1.len() < 400);
         let endless = Rows::new(io::BufReader::new(io::repeat(b'1')));
         assert!(endless.err().unwrap().1.contains("no CSV"));
         let blank = Rows::new(io::BufReader::new(io::repeat(b'\n')));

@@ -19,11 +19,15 @@ const MOST_QUOTED: usize = 60;
 const NO_QUANTITY: &str = "not a quantity";
 
 /// A text that was typed, for a message: not more of it than a line has room for.
-fn quoted(text: &str) -> String {
+pub fn shortened(text: &str) -> String {
     match text.char_indices().nth(MOST_QUOTED) {
-        Some((end, _)) => format!("'{}…'", &text[..end]),
-        None => format!("'{text}'"),
+        Some((end, _)) => format!("{}…", &text[..end]),
+        None => text.to_string(),
     }
+}
+
+fn quoted(text: &str) -> String {
+    format!("'{}'", shortened(text))
 }
 
 /// A whole number, decimal or with 0x, up to `most`.
