@@ -43,4 +43,6 @@ second-route =
     and (refl, refl, refl, refl, refl)
     and (refl, refl, refl, refl, refl)
     and (refl, refl, refl, refl, refl)
+    and (refl, refl, refl, refl, refl)
+    and (refl, refl, refl, refl, refl)
     and tt

@@ -57,7 +57,7 @@ examples =
     ∷ (caseBytes 4 1 1 0 0 7 hundred unit unit 0 0 0 gives toPlant nothing)
     ∷ []
 
--- By the separated rain sewer, which none of those takes: kinds 1 to 3, with a row of the paper, P2 among them, and with row 0. All of it goes to surface water.
+-- By the separated rain sewer, which none of those takes: kinds 1 to 3, with a row of the paper, P2 among them, and with row 0, kind 3 by both users. All of it goes to surface water.
 unfoldable pub secondRoutes : List Example
 secondRoutes =
     (caseBytes 1 4 2 0 0 7 five sixteen quarter 0 0 0 gives toRain (kg 116970 1825))
@@ -65,7 +65,9 @@ secondRoutes =
     ∷ (caseBytes 2 3 2 0 0 7 sixty-fourth 0 unit 0 0 0 gives toRain (kg 875 584))
     ∷ (caseBytes 2 0 2 0 40 7 half 0 quarter sixteen five hundred gives toRain (kg 100 1))
     ∷ (caseBytes 3 3 2 1 0 7 quarter 0 0 0 0 0 gives toRain (kg 393750 400000))
+    ∷ (caseBytes 3 3 2 2 0 7 quarter 0 0 0 0 0 gives toRain (kg 656250 400000))
     ∷ (caseBytes 3 0 2 1 3 7 half 0 0 sixteen five hundred gives toRain (kg 36 100))
+    ∷ (caseBytes 3 0 2 2 3 7 half 0 0 sixteen five hundred gives toRain (kg 60 100))
     ∷ []
 
 -- of a case: refused as printed, or accepted with the four exact values printed

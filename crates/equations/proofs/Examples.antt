@@ -63,4 +63,12 @@ row-examples =
     and (refl, refl, refl, refl)
     and (refl, refl, refl, refl)
     and (refl, refl, refl, refl)
+    and (refl, refl, refl, refl)
+    and (refl, refl, refl, refl)
+    and (refl, refl, refl, refl)
+    and (refl, refl, refl, refl)
+    and (refl, refl, refl, refl)
+    and (refl, refl, refl, refl)
+    and (refl, refl, refl, refl)
+    and (refl, refl, refl, refl)
     and tt

@@ -1,6 +1,6 @@
 -- Cases worked by pencil, beside the paper's own P1 to P10 (crate emission): each row of the default tables, and row 0 of each kind.
--- No two quantities of a case are equal; and with row 0 as with the paper's rows each quantity, T and the user have two values, of which the
--- second may be one of P1 to P10: whatever were left out of an equation, or taken for another, a case would show it.
+-- No two quantities of a case are equal. Each row of kind 3 is worked by both users; with row 0 as with the paper's rows each quantity and T have two
+-- values, of which the second may be one of P1 to P10: whatever were left out of an equation, or taken for another, a case would show it.
 use mathlib.Core.Path.{_≡_}
 use mathlib.Core.List.{List, [], _∷_}
 use Prim.Native.Nat.{ℕ, _*_}
@@ -62,17 +62,25 @@ rowExamples =
     ∷ (caseBytes 3 5 1 1 0 7 quarter 0 0 0 0 0 gives kg 1500000 400000)
     ∷ (caseBytes 3 6 1 1 0 7 quarter 0 0 0 0 0 gives kg 164052 4000000)
     ∷ (caseBytes 3 7 1 1 0 7 quarter 0 0 0 0 0 gives kg 558600 400000)
+    ∷ (caseBytes 3 1 1 2 0 7 quarter 0 0 0 0 0 gives kg 95760 40000000)
+    ∷ (caseBytes 3 2 1 2 0 7 quarter 0 0 0 0 0 gives kg 35280 4000000)
+    ∷ (caseBytes 3 3 1 2 0 7 quarter 0 0 0 0 0 gives kg 656250 400000)
     ∷ (caseBytes 3 4 1 2 0 7 quarter 0 0 0 0 0 gives kg 292425 4000000)
+    ∷ (caseBytes 3 5 1 2 0 7 quarter 0 0 0 0 0 gives kg 2500000 400000)
+    ∷ (caseBytes 3 6 1 2 0 7 quarter 0 0 0 0 0 gives kg 273420 4000000)
+    ∷ (caseBytes 3 7 1 2 0 7 quarter 0 0 0 0 0 gives kg 931000 400000)
     -- row 0: d·e·f·a·T times 3 over 100,000, and 5
     ∷ (caseBytes 3 0 1 1 3 7 half 0 0 sixteen five hundred gives kg 36 100)
     ∷ (caseBytes 3 0 1 2 3 7 half 0 0 sixteen five hundred gives kg 60 100)
     ∷ (caseBytes 3 0 1 1 100 7 eighth 0 0 five quarter thousand gives kg 46875 100000)
+    ∷ (caseBytes 3 0 1 2 100 7 eighth 0 0 five quarter thousand gives kg 78125 100000)
     -- kind 4: 0.2·a·(1 − b)·c/260, and by T with row 0
     ∷ (caseBytes 4 1 1 0 0 7 five quarter eighth 0 0 0 gives kg 9375 26000000)
     ∷ (caseBytes 4 0 1 0 100 7 sixteen quarter half 0 0 0 gives kg 12 1000)
     ∷ (caseBytes 4 0 1 0 365 7 five three-quarters eighth 0 0 0 gives kg 3125 36500000)
     -- kind 5: 1000·a·b·c/T, with d for air, e for soil
     ∷ record { case = caseBytes 5 0 1 0 100 7 five three-quarters quarter eighth thirty-second 0; water = kg 9375 1000; air = kg 46875 10000; soil = kg 1171875 1000000 }
+    ∷ record { case = caseBytes 5 0 1 0 365 7 sixteen eighth half thirty-second quarter 0; water = kg 1000 365; air = kg 125 730; soil = kg 500 365 }
     -- kind 6, a 1/4, b 1/8: 10·H·M·G/32
     ∷ (caseBytes 6 1 1 0 0 7 quarter eighth 0 0 0 0 gives kg 852 3200)
     ∷ (caseBytes 6 2 1 0 0 7 quarter eighth 0 0 0 0 gives kg 12 32)

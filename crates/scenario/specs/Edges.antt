@@ -96,7 +96,8 @@ infinity = 0x7ff0000000000000
 abbrev pub no-number : ℕ
 no-number = 0x7ff8000000000000
 
--- P8 with one thing changed or two: each refusal's own number, and of two that hold the one that the paper tells first. The next pattern is the next number.
+-- P8 with one thing changed or two: each refusal's own number, and of two that hold the one that the paper tells first; then one case of each other kind,
+-- with a user, a T, an unlisted quantity and a listed one that are not allowed, and the last two together. The next pattern is the next number.
 abbrev pub told : List Edge
 told =
     -- one
@@ -130,4 +131,36 @@ told =
     ∷ (caseBytes 5 0 1 0 250 7 minus-zero eighth half quarter eighth least gives 8)
     ∷ (caseBytes 5 0 1 0 250 7 (million + 1) eighth half quarter eighth least gives 9)
     ∷ (caseBytes 5 0 1 0 250 7 (million + 1) eighth half quarter half 0 gives 10)
+    -- of the other kinds
+    ∷ (caseBytes 1 0 1 1 100 7 half eighth quarter sixteen 0 0 gives 5)
+    ∷ (caseBytes 1 0 1 0 36501 7 half eighth quarter sixteen 0 0 gives 6)
+    ∷ (caseBytes 1 0 1 0 100 7 half eighth quarter sixteen least 0 gives 9)
+    ∷ (caseBytes 1 0 1 0 100 7 half eighth quarter (thousand + 1) 0 0 gives 10)
+    ∷ (caseBytes 1 0 1 0 100 7 half eighth quarter (thousand + 1) least 0 gives 9)
+    ∷ (caseBytes 2 0 1 1 40 7 half 0 quarter sixteen five hundred gives 5)
+    ∷ (caseBytes 2 0 1 0 30 7 half 0 quarter sixteen five hundred gives 6)
+    ∷ (caseBytes 2 0 1 0 40 7 half least quarter sixteen five hundred gives 9)
+    ∷ (caseBytes 2 0 1 0 40 7 half 0 quarter sixteen five (five-thousand + 1) gives 10)
+    ∷ (caseBytes 2 0 1 0 40 7 half least quarter sixteen five (five-thousand + 1) gives 9)
+    ∷ (caseBytes 3 3 1 0 0 7 quarter 0 0 0 0 0 gives 5)
+    ∷ (caseBytes 3 3 1 3 0 7 quarter 0 0 0 0 0 gives 5)
+    ∷ (caseBytes 3 3 1 1 1 7 quarter 0 0 0 0 0 gives 6)
+    ∷ (caseBytes 3 3 1 1 0 7 quarter 0 0 least 0 0 gives 9)
+    ∷ (caseBytes 3 3 1 1 0 7 (unit + 1) 0 0 0 0 0 gives 10)
+    ∷ (caseBytes 3 3 1 1 0 7 (unit + 1) 0 0 least 0 0 gives 9)
+    ∷ (caseBytes 4 0 1 1 100 7 sixteen quarter half 0 0 0 gives 5)
+    ∷ (caseBytes 4 0 1 0 367 7 sixteen quarter half 0 0 0 gives 6)
+    ∷ (caseBytes 4 0 1 0 100 7 sixteen quarter half least 0 0 gives 9)
+    ∷ (caseBytes 4 0 1 0 100 7 (million + 1) quarter half 0 0 0 gives 10)
+    ∷ (caseBytes 4 0 1 0 100 7 (million + 1) quarter half least 0 0 gives 9)
+    ∷ (caseBytes 6 0 1 1 0 7 half eighth 0 five sixteen quarter gives 5)
+    ∷ (caseBytes 6 0 1 0 1 7 half eighth 0 five sixteen quarter gives 6)
+    ∷ (caseBytes 6 0 1 0 0 7 half eighth least five sixteen quarter gives 9)
+    ∷ (caseBytes 6 0 1 0 0 7 half eighth 0 (ten-thousand + 1) sixteen quarter gives 10)
+    ∷ (caseBytes 6 0 1 0 0 7 half eighth least (ten-thousand + 1) sixteen quarter gives 9)
+    ∷ (caseBytes 7 1 1 1 0 7 half quarter five three-quarters eighth 0 gives 5)
+    ∷ (caseBytes 7 1 1 0 1 7 half quarter five three-quarters eighth 0 gives 6)
+    ∷ (caseBytes 7 1 1 0 0 7 half quarter five three-quarters eighth least gives 9)
+    ∷ (caseBytes 7 1 1 0 0 7 half quarter (five + 1) three-quarters eighth 0 gives 10)
+    ∷ (caseBytes 7 1 1 0 0 7 half quarter (five + 1) three-quarters eighth least gives 9)
     ∷ []
