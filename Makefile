@@ -96,7 +96,7 @@ c-test: $(LIB)
 	@$(CC) $(CFLAGS) -Iinclude tests/c/interface.c $(LIB) -o target/c/interface
 	@target/c/interface >target/c/interface.out
 	@diff tests/c/interface.expected target/c/interface.out
-	@for name in $$(sed -n 's/^#define \(CSORVELIN_[A-Z_]*\)[ (].*/\1/p' include/csorvelin.h); do \
+	@for name in $$(sed -n 's/^#define \(CSORVELIN_[A-Z0-9_]*\)[ (].*/\1/p' include/csorvelin.h); do \
 	    grep -q "^$$name[ (]" target/c/interface.out || { echo "c-test: nothing is compared with $$name"; exit 1; }; done
 	@echo 'c-test: the C interface answers as expected'
 

@@ -67,13 +67,11 @@ fn lay_sum(limbs: &mut [u32], x: u64, s: usize, y: u64, t: usize)
     add_term(limbs, y, t);
 }
 
-fn larger(a: usize, b: usize) -> usize
+// The larger of two.
+pub fn larger(a: usize, b: usize) -> usize
     ensures { λ r. ⌜ r ≡ max a b ⌝ }
 {
-    if a < b {
-        return b;
-    }
-    a
+    if a < b { b } else { a }
 }
 
 // Writes x * 2 ^ s + y * 2 ^ t; returns how many limbs are in use. It works on as many as the larger shift asks for, and those

@@ -1,7 +1,7 @@
 // Chains of factors in limbs: exact products of quantities, rounded up once at the end.
 ghost use mathlib.Core.Path.{_≡_};
 ghost use mathlib.Core.List.{[], _∷_, _++_, map};
-ghost use Prim.Native.Nat.{_+_, _*_, _^_, _≤_, _<_, min, max};
+ghost use Prim.Native.Nat.{_+_, _*_, _^_, _≤_, _<_, min};
 ghost use lib.ListN.{length, take};
 ghost use Rattle.natural.specs.Value.{value};
 ghost use Rattle.product.specs.Ratio.{_over_, _·_, _⊕_, exactly, Same, roundedUp};
@@ -9,6 +9,7 @@ ghost use Rattle.product.specs.Chain.{quantity, less, chain};
 ghost use Rattle.product.specs.Ranges.{UpTo, Each, largest};
 use binary64::pattern::parts_of;
 use binary64::pattern::pattern_of;
+use chain::starts::larger;
 
 // A quantity as significand / 2^depth.
 struct Dyadic {
@@ -93,12 +94,6 @@ pub fn remainder_up(x: f64, quantities: &[f64], k: u64, d: u32) -> u64
     finish(&mut limbs, m, q.depth, &quantities[..], d)
 }
 
-fn deeper(a: usize, b: usize) -> usize
-    ensures { λ r. ⌜ r ≡ max a b ⌝ }
-{
-    if a < b { b } else { a }
-}
-
 // k / d times a + b times the quantities, rounded up.
 pub fn sum_up(a: f64, b: f64, quantities: &[f64], k: u64, d: u32) -> u64
     requires { ⌜ (length (now quantities) ≤ 2) × (0 < d) × UpTo largest a × UpTo largest b × Each (now quantities) ⌝ }
@@ -106,7 +101,7 @@ pub fn sum_up(a: f64, b: f64, quantities: &[f64], k: u64, d: u32) -> u64
 {
     let p = dyadic_of(a);
     let q = dyadic_of(b);
-    let depth = deeper(p.depth, q.depth);
+    let depth = larger(p.depth, q.depth);
     let mut limbs = [0u32; 42];
     let n = chain::starts::sum(
         &mut limbs,

@@ -24,7 +24,7 @@ returns c =
     let q = d .before in
     let p = q .before in
     let s = p .before .before in
-    let depth = d .deeper .result in
+    let depth = d .larger .result in
     f .finish .ensures
     ∙ ap (λ (n : ℕ). min 18446744073709551615 n)
     (start-times (s .args .quantities .now) _ _ depth (s .args .k) (s .args .d) (exactly (s .args .a) ⊕ exactly (s .args .b)) (s .pre .1) (mul-pos (pow-pos 1074) (pow-pos 1074)) (t .times .ensures .0)
