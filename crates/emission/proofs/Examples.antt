@@ -10,7 +10,7 @@ use Rattle.scenario.specs.Decoding.{caseWith, caseOfPatterns, headOf}
 use Rattle.scenario.specs.Builder.{caseBytes}
 use Rattle.equations.specs.Rows.{cities, cityAt, hygienes, hygieneAt}
 use Rattle.product.specs.Chain.{chain}
-use Rattle.equations.specs.Equations.{total, toWater, toAir, toSoil}
+use Rattle.equations.specs.Equations.{total, emitted}
 use Rattle.emission.specs.Figures.{exactValues}
 use Rattle.emission.specs.WorkedExamples.{examples, secondRoutes, Gives, Holds, All}
 
@@ -19,7 +19,7 @@ _and_ : {A B : Type 0} → A → B → A × B
 a and b = (a, b)
 
 pub worked-examples : All examples
-unfolding All Holds Gives examples caseBytes bytesOf exactValues toWater toAir toSoil chain total cities cityAt hygienes hygieneAt caseOfPatterns caseWith headOf numberAt numberOf refusalOf notSixtyFour kindUnknown rowUnknown routeNotAllowed userNotAllowed countNotAllowed notNumber notZeroBytes overLimit sumWithin sumOver kinds kindAt listingsAt isUnsignedFinite whole wholeAt add le ofBits toBits
+unfolding All Holds Gives examples caseBytes bytesOf exactValues emitted chain total cities cityAt hygienes hygieneAt caseOfPatterns caseWith headOf numberAt numberOf refusalOf notSixtyFour kindUnknown rowUnknown routeNotAllowed userNotAllowed countNotAllowed notNumber notZeroBytes overLimit sumWithin sumOver kinds kindAt listingsAt isUnsignedFinite whole wholeAt add le ofBits toBits
 worked-examples =
     (refl, refl, refl, refl, refl)
     and (refl, refl, refl, refl, refl)
@@ -35,7 +35,7 @@ worked-examples =
     and tt
 
 pub second-route : All secondRoutes
-unfolding All Holds Gives secondRoutes caseBytes bytesOf exactValues toWater toAir toSoil chain total cities cityAt hygienes hygieneAt caseOfPatterns caseWith headOf numberAt numberOf refusalOf notSixtyFour kindUnknown rowUnknown routeNotAllowed userNotAllowed countNotAllowed notNumber notZeroBytes overLimit sumWithin sumOver kinds kindAt listingsAt isUnsignedFinite whole wholeAt add le ofBits toBits
+unfolding All Holds Gives secondRoutes caseBytes bytesOf exactValues emitted chain total cities cityAt hygienes hygieneAt caseOfPatterns caseWith headOf numberAt numberOf refusalOf notSixtyFour kindUnknown rowUnknown routeNotAllowed userNotAllowed countNotAllowed notNumber notZeroBytes overLimit sumWithin sumOver kinds kindAt listingsAt isUnsignedFinite whole wholeAt add le ofBits toBits
 second-route =
     (refl, refl, refl, refl, refl)
     and (refl, refl, refl, refl, refl)

@@ -10,7 +10,7 @@ use Rattle.scenario.specs.Decoding.{caseWith, caseOfPatterns, headOf}
 use Rattle.scenario.specs.Builder.{caseBytes}
 use Rattle.product.specs.Chain.{chain}
 use Rattle.equations.specs.Rows.{cities, cityAt, hygienes, hygieneAt}
-use Rattle.equations.specs.Equations.{total, toWater, toAir, toSoil}
+use Rattle.equations.specs.Equations.{total, emitted}
 use Rattle.equations.specs.RowExamples.{rowExamples, Worked, AllWorked}
 
 infixr 1 _and_
@@ -18,7 +18,7 @@ _and_ : {A B : Type 0} → A → B → A × B
 a and b = (a, b)
 
 pub row-examples : AllWorked rowExamples
-unfolding AllWorked Worked rowExamples caseBytes bytesOf toWater toAir toSoil chain total cities cityAt hygienes hygieneAt caseOfPatterns caseWith headOf numberAt numberOf refusalOf notSixtyFour kindUnknown rowUnknown routeNotAllowed userNotAllowed countNotAllowed notNumber notZeroBytes overLimit sumWithin sumOver kinds kindAt listingsAt isUnsignedFinite whole wholeAt add le ofBits toBits
+unfolding AllWorked Worked rowExamples caseBytes bytesOf emitted chain total cities cityAt hygienes hygieneAt caseOfPatterns caseWith headOf numberAt numberOf refusalOf notSixtyFour kindUnknown rowUnknown routeNotAllowed userNotAllowed countNotAllowed notNumber notZeroBytes overLimit sumWithin sumOver kinds kindAt listingsAt isUnsignedFinite whole wholeAt add le ofBits toBits
 row-examples =
     (refl, refl, refl, refl)
     and (refl, refl, refl, refl)

@@ -13,7 +13,7 @@ use Rattle.scenario.specs.Builder.{caseBytes}
 use Rattle.natural.specs.Ceiling.{ceiling}
 use Rattle.product.specs.Chain.{chain}
 use Rattle.equations.specs.Rows.{cities, cityAt, hygienes, hygieneAt}
-use Rattle.equations.specs.Equations.{total, toWater, toAir, toSoil}
+use Rattle.equations.specs.Equations.{total, emitted}
 use Rattle.emission.specs.Figures.{exactValues, figuresOf}
 use Rattle.records.specs.Layout.{figureBytes, recordOf, records, trailer, archiveOf, recordSize, edition}
 use Rattle.records.specs.Lines.{sameFiling, held, figure, highest, firstWith, worstOf}
@@ -32,7 +32,7 @@ a and b = (a, b)
 
 -- also of the case that is refused, whose figures are zeros
 pub worked-fed : AllFed (map (λ (t : Told). t .call) workedHistory)
-unfolding workedHistory caseBytes bytesOf figuresOf exactValues toWater toAir toSoil chain total cities cityAt hygienes hygieneAt caseOfPatterns caseWith headOf numberAt numberOf refusalOf notSixtyFour kindUnknown rowUnknown routeNotAllowed userNotAllowed countNotAllowed notNumber notZeroBytes overLimit sumWithin sumOver kinds kindAt listingsAt isUnsignedFinite whole wholeAt add le ofBits toBits ceiling
+unfolding workedHistory caseBytes bytesOf figuresOf exactValues emitted chain total cities cityAt hygienes hygieneAt caseOfPatterns caseWith headOf numberAt numberOf refusalOf notSixtyFour kindUnknown rowUnknown routeNotAllowed userNotAllowed countNotAllowed notNumber notZeroBytes overLimit sumWithin sumOver kinds kindAt listingsAt isUnsignedFinite whole wholeAt add le ofBits toBits ceiling
 worked-fed =
     tt and tt and tt and tt
     and (λ e. refl) and (λ e. refl) and (λ e. refl) and (λ e. refl) and (λ e. refl) and (λ e. refl) and (λ e. refl) and (λ e. refl) and (λ e. refl) and (λ e. refl) and (λ e. refl)
