@@ -33,10 +33,13 @@ pub struct Faults {
     pub over: bool,
 }
 
-// What was found, with a quantity by its limit, 0 where it is unlisted, and its pattern. Patterns are in the order of their values.
-fn add_faults(found: Faults, limit: u64, pattern: u64) -> Faults
-    ensures { λ r. ⌜ r ≡ addFaults found limit pattern ⌝ }
+// What was found, with quantity i by its limit, 0 where it is unlisted, and its pattern. Patterns are in the order of their values.
+fn add_faults(found: Faults, limits: &[u64; 6], p: &[u64; 6], i: usize) -> Faults
+    requires { ⌜ i < 6 ⌝ }
+    ensures { λ r. ⌜ r ≡ addFaults found (at (now (limits .entry)) i) (at (now (p .entry)) i) ⌝ }
 {
+    let limit = limits[i];
+    let pattern = p[i];
     let unlisted = limit == 0;
     Faults {
         invalid: found.invalid | !is_unsigned_finite(pattern),
@@ -55,12 +58,12 @@ fn faults_of(kind: u8, row: u8, p: &[u64; 6]) -> Faults
         stray: false,
         over: false,
     };
-    let a = add_faults(none, limits[0], p[0]);
-    let b = add_faults(a, limits[1], p[1]);
-    let c = add_faults(b, limits[2], p[2]);
-    let d = add_faults(c, limits[3], p[3]);
-    let e = add_faults(d, limits[4], p[4]);
-    add_faults(e, limits[5], p[5])
+    let a = add_faults(none, &limits, p, 0);
+    let b = add_faults(a, &limits, p, 1);
+    let c = add_faults(b, &limits, p, 2);
+    let d = add_faults(c, &limits, p, 3);
+    let e = add_faults(d, &limits, p, 4);
+    add_faults(e, &limits, p, 5)
 }
 
 // A quantity of six that are all numbers.
