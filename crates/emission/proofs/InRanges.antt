@@ -5,7 +5,7 @@ use Prim.Native.Nat.{ℕ, zero, suc, _*_, _≤_, _<_}
 use native.Mathlib.Omega.{arith}
 use Rattle.binary64.specs.Quantity.{one}
 use Rattle.binary64.proofs.Exact.{not-nan, whole-zero}
-use Rattle.scenario.specs.Case.{kindOf, rowOf, countOf, patternAt, quantityOf, exactOf, exactAt, refusalOf}
+use Rattle.scenario.specs.Case.{kinds, kindOf, rowOf, countOf, patternAt, quantityOf, exactOf, exactAt, refusalOf}
 use Rattle.scenario.specs.Decoding.{caseWith, caseOfPatterns, caseOf, headOf}
 use Rattle.scenario.specs.Ranges.{Between, ByRow, OwnUpTo, allowedBy}
 use Rattle.scenario.proofs.KindTable.{each-kind, _then_}
@@ -40,10 +40,10 @@ module _ (b : List ℕ) (w : WithinRanges b) where
   own i h {m} l = listed i h (own-most (rowOf b) m (patternAt b i) l)
 
   of-its-kind : InRange (caseOf b) (headOf b)
-  unfolding InRange Within caseOfPatterns caseWith headOf
+  unfolding InRange Within caseOfPatterns caseWith headOf kinds
   of-its-kind =
       each-kind
-      (λ k. allowedBy k b .row → allowedBy k b .count → allowedBy k b .quantities → InRange (caseOfPatterns k (patternAt b)) (headOf b)) 7
+      (λ k. allowedBy k b .row → allowedBy k b .count → allowedBy k b .quantities → InRange (caseOfPatterns k (patternAt b)) (headOf b))
       (tt
       then (λ r t q. (r .1, λ z. t .0 z .0, (listed 0 (omega arith) (q .0), (listed 1 (omega arith) (q .1), (listed 2 (omega arith) (q .2), (own 3 (omega arith) (q .3), tt))))))
       then (λ r t q. (r .1, λ z. t .0 z .0, (listed 2 (omega arith) (q .2), (own 3 (omega arith) (q .3), (own 4 (omega arith) (q .4), (own 5 (omega arith) (q .5), (listed 0 (omega arith) (q .0), tt)))))))
@@ -54,7 +54,7 @@ module _ (b : List ℕ) (w : WithinRanges b) where
       (t .0 (omega arith) .0, (listed 0 (omega arith) (q .0), (listed 1 (omega arith) (q .1), (listed 2 (omega arith) (q .2), (listed 3 (omega arith) (q .3), (listed 4 (omega arith) (q .4), tt)))))))
       then (λ r t q. (r .1, (own 5 (omega arith) (q .5), (own 4 (omega arith) (q .4), (own 3 (omega arith) (q .3), (listed 0 (omega arith) (q .0), (listed 1 (omega arith) (q .1), tt)))))))
       then (λ r t q. (count-most (rowOf b) (countOf b) _ t, (listed 3 (omega arith) (q .3), (listed 0 (omega arith) (q .0), (listed 2 (omega arith) (q .2), (listed 1 (omega arith) (q .1), (listed 4 (omega arith) (q .4), tt))))))))
-      (kindOf b) (w .kind .0) (w .kind .1) (w .row) (w .count) (w .quantities)
+      (kindOf b) (w .kind) (w .row) (w .count) (w .quantities)
 
 pub in-range : (b : List ℕ) → refusalOf b ≡ 0 → InRange (caseOf b) (headOf b)
 in-range b none = of-its-kind b (accepted-exactly b .0 none)

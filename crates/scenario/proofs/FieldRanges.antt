@@ -16,7 +16,7 @@ use lib.ListN.{length, getD}
 use borrow.Author.Tests.{not-false, eqb-true, eqb-false, eq-eqb}
 use Rattle.binary64.proofs.Bools.{both}
 use Rattle.scenario.specs.Case.{rowOf, userOf, countOf, patternAt, ofSix, quantityOf, Range, _to_, within, Listing, unlisted, upTo, ownUpTo, Kind, kinds, noKind, kindAt, rowUnknown, routeNotAllowed, userNotAllowed, countNotAllowed, sumFrom}
-use Rattle.scenario.specs.Ranges.{Between, ByRow, UpTo, ZeroBytes, OwnUpTo, AtMost1, NoSum, Allows, allows, allowsNothing, allowedBy, Route}
+use Rattle.scenario.specs.Ranges.{Between, ByRow, UpTo, ZeroBytes, OwnUpTo, AtMost1, NoSum, IsKind, Allows, allows, allowsNothing, allowedBy, Route}
 use Rattle.scenario.proofs.KindTable.{inside}
 
 -- ── tests in plain numbers
@@ -84,10 +84,10 @@ there f [] i h = absurd (omega arith)
 there f (x ∷ xs) zero h = refl
 there f (x ∷ xs) (suc i) h = there f xs i (le-of-suc-le-suc h)
 
-pub by-table : (b : List ℕ) (k : ℕ) → 1 ≤ k → k ≤ 7 → allowedBy k b ≡ tableSays b (kindAt k)
+pub by-table : (b : List ℕ) (k : ℕ) → IsKind k → allowedBy k b ≡ tableSays b (kindAt k)
 unfolding kindAt kinds sumFrom
-by-table b zero h l = absurd (omega arith)
-by-table b (suc k) h l = there (tableSays b) kinds k l
+by-table b zero h = let z = h .0 in absurd (omega arith)
+by-table b (suc k) h = there (tableSays b) kinds k (h .1)
 
 -- ── each field
 
@@ -102,15 +102,15 @@ by-row row own paper t = go (eqb row 0) refl
     go true e = let z = eqb-true row 0 e in let p = refused (inside own t) in (λ h. (λ r. p .0 h, λ n. absurd (n z)), λ h. p .1 (h .0 z))
     go false e = let n = eqb-false row 0 e in let p = refused (inside paper t) in (λ h. (λ z. absurd (n z), λ r. p .0 h), λ h. p .1 (h .1 n))
 
-module _ (b : List ℕ) (k : ℕ) (h : 1 ≤ k) (l : k ≤ 7) where
+module _ (b : List ℕ) (k : ℕ) (h : IsKind k) where
   pub rows-exactly : Passes (rowUnknown k (rowOf b)) (allowedBy k b .row)
   unfolding rowUnknown
-  rows-exactly = rw (by-table b k h l) (refused (inside (kindAt k .rows) (rowOf b)))
+  rows-exactly = rw (by-table b k h) (refused (inside (kindAt k .rows) (rowOf b)))
 
   pub users-exactly : Passes (userNotAllowed k (userOf b)) (allowedBy k b .user)
   unfolding userNotAllowed
-  users-exactly = rw (by-table b k h l) (refused (inside (kindAt k .users) (userOf b)))
+  users-exactly = rw (by-table b k h) (refused (inside (kindAt k .users) (userOf b)))
 
   pub counts-exactly : Passes (countNotAllowed k (rowOf b) (countOf b)) (allowedBy k b .count)
   unfolding countNotAllowed
-  counts-exactly = rw (by-table b k h l) (by-row (rowOf b) (kindAt k .ownCount) (kindAt k .rowCount) (countOf b))
+  counts-exactly = rw (by-table b k h) (by-row (rowOf b) (kindAt k .ownCount) (kindAt k .rowCount) (countOf b))

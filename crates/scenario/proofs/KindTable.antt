@@ -8,10 +8,10 @@ use Prim.Native.Nat.{ℕ, zero, suc, _+_, _≤_, _<_}
 use native.Mathlib.Nat.{add-zero, zero-add, add-suc, suc-add}
 use native.Mathlib.Omega.{arith}
 use lib.Dec.{leb, eqb}
-use lib.ListN.{getD, List·getD-eq-default}
+use lib.ListN.{length, getD, List·getD-eq-default}
 use borrow.Author.Tests.{leb-true, le-leb, eqb-true, eqb-false, ne-eqb}
 use Rattle.scenario.specs.Case.{Range, within, Kind, kinds, noKind, kindAt}
-use Rattle.scenario.specs.Ranges.{Between}
+use Rattle.scenario.specs.Ranges.{Between, IsKind}
 use Rattle.binary64.proofs.Bools.{both}
 
 pub inside : (r : Range) (n : ℕ) → (within r n ≡ true → Between (r .from) (r .to) n) × (Between (r .from) (r .to) n → within r n ≡ true)
@@ -31,10 +31,10 @@ above : (n k : ℕ) → 0 < k → OtherThan n k → n < k
 above zero k h o = h
 above (suc n) k h o = let l = above n k h (o .0) in let e = o .1 in omega arith
 
-pub no-kind : (k : ℕ) → OtherThan 7 k → kindAt k ≡ noKind
-unfolding kindAt kinds
+pub no-kind : (k : ℕ) → OtherThan (length kinds) k → kindAt k ≡ noKind
+unfolding kindAt
 no-kind zero o = refl
-no-kind (suc k) o = List·getD-eq-default (noKind ∷ kinds) noKind (above 7 (suc k) (omega arith) o)
+no-kind (suc k) o = List·getD-eq-default (noKind ∷ kinds) noKind (above (length kinds) (suc k) (omega arith) o)
 
 -- from 1 to n
 abbrev pub Each : (ℕ → Type 0) → ℕ → Type 0
@@ -45,13 +45,17 @@ infixl 1 _then_
 pub _then_ : {A B : Type 0} → A → B → A × B
 a then b = (a, b)
 
-pub each-kind : (P : ℕ → Type 0) (n : ℕ) → Each P n → (k : ℕ) → 1 ≤ k → k ≤ n → P k
-each-kind P zero e k h l = absurd (omega arith)
-each-kind P (suc n) e k h l = go (eqb k (suc n)) refl (each-kind P n (e .0) k h)
+each-to : (P : ℕ → Type 0) (n : ℕ) → Each P n → (k : ℕ) → 1 ≤ k → k ≤ n → P k
+each-to P zero e k h l = absurd (omega arith)
+each-to P (suc n) e k h l = go (eqb k (suc n)) refl (each-to P n (e .0) k h)
   where
     go : (t : Bool) → eqb k (suc n) ≡ t → (k ≤ n → P k) → P k
     go true q below = rw (eqb-true k (suc n) q) (e .1)
     go false q below = let m = eqb-false k (suc n) q in below (omega arith)
+
+pub each-kind : (P : ℕ → Type 0) → Each P (length kinds) → (k : ℕ) → IsKind k → P k
+unfolding kinds
+each-kind P e k h = each-to P (length kinds) e k (h .0) (h .1)
 
 -- ── one test of all
 

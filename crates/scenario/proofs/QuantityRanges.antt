@@ -13,7 +13,7 @@ use borrow.Author.Tests.{not-false, leb-true, le-leb, eqb-true, eqb-false, eq-eq
 use Rattle.binary64.specs.Quantity.{one}
 use Rattle.binary64.proofs.Exact.{unsigned-finite-exactly}
 use Rattle.scenario.specs.Case.{rowOf, patternAt, ofSix, quantityOf, exactOf, Listing, unlisted, upTo, ownUpTo, kindAt, listingAt, notNumber, anyNotNumber, notZeroBytes, anyNotZeroBytes, overLimit, anyOverLimit, sumWithin, summedOf, sumOver}
-use Rattle.scenario.specs.Ranges.{Number, OwnUpTo, allowedBy}
+use Rattle.scenario.specs.Ranges.{Number, OwnUpTo, IsKind, allowedBy}
 use Rattle.scenario.proofs.Six.{none-of-six, six-then, each-finite}
 use Rattle.scenario.proofs.FieldRanges.{Passes, passes, Says, SumSays, by-table}
 
@@ -54,11 +54,11 @@ of-summed (i ∷ is) xs = (not-false _, passes)
 
 -- ── by kind
 
-module _ (b : List ℕ) (k : ℕ) (h : 1 ≤ k) (l : k ≤ 7) where
+module _ (b : List ℕ) (k : ℕ) (h : IsKind k) where
   pub quantities-exactly : (anyNotZeroBytes k (rowOf b) (patternAt b) ≡ false → anyOverLimit k (rowOf b) (patternAt b) ≡ false → allowedBy k b .quantities)
       × (allowedBy k b .quantities → (anyNotZeroBytes k (rowOf b) (patternAt b) ≡ false) × (anyOverLimit k (rowOf b) (patternAt b) ≡ false))
   quantities-exactly =
-      rw (by-table b k h l) (
+      rw (by-table b k h) (
         λ z o. (keeps z o 0 (omega arith), keeps z o 1 (omega arith), keeps z o 2 (omega arith), keeps z o 3 (omega arith), keeps z o 4 (omega arith), keeps z o 5 (omega arith)),
         λ s. (
           rw (kept 0 (s .0) .0, kept 1 (s .1) .0, kept 2 (s .2) .0, kept 3 (s .3) .0, kept 4 (s .4) .0, kept 5 (s .5) .0),
@@ -78,4 +78,4 @@ module _ (b : List ℕ) (k : ℕ) (h : 1 ≤ k) (l : k ≤ 7) where
 
   pub sum-exactly : Passes (sumOver k (patternAt b)) (allowedBy k b .sum)
   unfolding sumOver summedOf
-  sum-exactly = rw (by-table b k h l) (of-summed (kindAt k .summed) (ofSix (λ i. quantityOf (patternAt b i))))
+  sum-exactly = rw (by-table b k h) (of-summed (kindAt k .summed) (ofSix (λ i. quantityOf (patternAt b i))))

@@ -6,9 +6,9 @@ use Prim.Native.Nat.{ℕ}
 use lib.ListN.{length}
 use borrow.Author.Tests.{eqb-false, ne-eqb}
 use Rattle.scenario.specs.Refusal.{none, later}
-use Rattle.scenario.specs.Case.{_to_, kindOf, rowOf, routeOf, dossierOf, patternAt, notSixtyFour, kindUnknown, refusals, refusalOf}
+use Rattle.scenario.specs.Case.{kindOf, rowOf, routeOf, dossierOf, patternAt, notSixtyFour, kindUnknown, refusals, refusalOf}
 pub use Rattle.scenario.specs.Ranges.{WithinRanges}
-use Rattle.scenario.specs.Ranges.{Between}
+use Rattle.scenario.specs.Ranges.{IsKind}
 use Rattle.scenario.proofs.Refusals.{none-holds, first-is-first-of}
 use Rattle.scenario.proofs.KindTable.{inside}
 use Rattle.scenario.proofs.FieldRanges.{Passes, refused, equal, rows-exactly, routes-exactly, users-exactly, counts-exactly}
@@ -21,8 +21,8 @@ accepted-exactly b = (ranges, accepted)
     length-exactly : Passes (notSixtyFour b) (length b ≡ 64)
     length-exactly = refused (equal (length b) 64)
 
-    kind-exactly : Passes (kindUnknown (kindOf b)) (Between 1 7 (kindOf b))
-    kind-exactly = refused (inside (1 to 7) (kindOf b))
+    kind-exactly : Passes (kindUnknown (kindOf b)) (IsKind (kindOf b))
+    kind-exactly = refused (inside _ (kindOf b))
 
     ranges : refusalOf b ≡ 0 → WithinRanges b
     ranges e =
@@ -31,30 +31,30 @@ accepted-exactly b = (ranges, accepted)
         record {
           sixty-four = length-exactly .0 (h 0);
           kind = k;
-          row = rows-exactly b (kindOf b) (k .0) (k .1) .0 (h 2);
+          row = rows-exactly b (kindOf b) k .0 (h 2);
           route = routes-exactly (kindOf b) (rowOf b) (routeOf b) .0 (h 3);
-          user = users-exactly b (kindOf b) (k .0) (k .1) .0 (h 4);
-          count = counts-exactly b (kindOf b) (k .0) (k .1) .0 (h 5);
+          user = users-exactly b (kindOf b) k .0 (h 4);
+          count = counts-exactly b (kindOf b) k .0 (h 5);
           dossier = eqb-false (dossierOf b) 0 (h 6);
           numbers = numbers-exactly (patternAt b) .0 (h 7);
-          quantities = quantities-exactly b (kindOf b) (k .0) (k .1) .0 (h 8) (h 9);
-          sum = sum-exactly b (kindOf b) (k .0) (k .1) .0 (h 10);
+          quantities = quantities-exactly b (kindOf b) k .0 (h 8) (h 9);
+          sum = sum-exactly b (kindOf b) k .0 (h 10);
         }
 
     accepted : WithinRanges b → refusalOf b ≡ 0
     accepted w =
         let k = w .kind in
-        let q = quantities-exactly b (kindOf b) (k .0) (k .1) .1 (w .quantities) in
+        let q = quantities-exactly b (kindOf b) k .1 (w .quantities) in
         first-is-first-of
         (later (length-exactly .1 (w .sixty-four))
         (later (kind-exactly .1 k)
-        (later (rows-exactly b (kindOf b) (k .0) (k .1) .1 (w .row))
+        (later (rows-exactly b (kindOf b) k .1 (w .row))
         (later (routes-exactly (kindOf b) (rowOf b) (routeOf b) .1 (w .route))
-        (later (users-exactly b (kindOf b) (k .0) (k .1) .1 (w .user))
-        (later (counts-exactly b (kindOf b) (k .0) (k .1) .1 (w .count))
+        (later (users-exactly b (kindOf b) k .1 (w .user))
+        (later (counts-exactly b (kindOf b) k .1 (w .count))
         (later (ne-eqb (dossierOf b) 0 (w .dossier))
         (later (numbers-exactly (patternAt b) .1 (w .numbers))
         (later (q .0)
         (later (q .1)
-        (later (sum-exactly b (kindOf b) (k .0) (k .1) .1 (w .sum))
+        (later (sum-exactly b (kindOf b) k .1 (w .sum))
         none)))))))))))

@@ -5,7 +5,7 @@ use mathlib.Core.List.{List}
 use Prim.Native.Nat.{ℕ}
 use lib.Dec.{eqb}
 use borrow.Author.Tests.{eqb-true}
-use Rattle.scenario.specs.Case.{kindOf, patternAt, ofSix, quantityOf, refusalOf}
+use Rattle.scenario.specs.Case.{kinds, kindOf, patternAt, ofSix, quantityOf, refusalOf}
 use Rattle.scenario.specs.Decoding.{caseWith, caseOfPatterns, caseOf, headOf, decoded, kindIn, quantitiesIn, ofDecoded, said}
 use Rattle.scenario.specs.Ranges.{allowedBy}
 use Rattle.scenario.specs.declared.Decoded.{Decoded}
@@ -13,11 +13,11 @@ use Rattle.scenario.proofs.KindTable.{each-kind, _then_}
 use Rattle.scenario.proofs.Ranges.{accepted-exactly}
 
 pub accepted-says : (b : List ℕ) → refusalOf b ≡ 0 → (kindIn (caseOf b) ≡ kindOf b) × (quantitiesIn (caseOf b) ≡ ofSix (λ i. quantityOf (patternAt b i)))
-unfolding caseOfPatterns caseWith
+unfolding caseOfPatterns caseWith kinds
 accepted-says b none =
     let w = accepted-exactly b .0 none in
     each-kind
-    (λ k. allowedBy k b .quantities → (kindIn (caseOfPatterns k (patternAt b)) ≡ k) × (quantitiesIn (caseOfPatterns k (patternAt b)) ≡ ofSix (λ i. quantityOf (patternAt b i)))) 7
+    (λ k. allowedBy k b .quantities → (kindIn (caseOfPatterns k (patternAt b)) ≡ k) × (quantitiesIn (caseOfPatterns k (patternAt b)) ≡ ofSix (λ i. quantityOf (patternAt b i))))
     (tt
     then (λ q. (refl, refl))
     then (λ q. (refl, rw (q .1)))
@@ -26,7 +26,7 @@ accepted-says b none =
     then (λ q. (refl, rw (q .5)))
     then (λ q. (refl, rw (q .2)))
     then (λ q. (refl, rw (q .5))))
-    (kindOf b) (w .kind .0) (w .kind .1) (w .quantities)
+    (kindOf b) (w .kind) (w .quantities)
 
 pub of-decoded : (b : List ℕ) → ofDecoded (decoded b) ≡ said b
 unfolding decoded said headOf

@@ -51,6 +51,9 @@ NoSum = Unit {0}
 
 -- ── what each kind allows
 
+abbrev pub IsKind : ℕ → Type 0
+IsKind k = Between 1 7 k
+
 -- row, user, T, the quantities, and the sum, if there is one: what refusals 3, 5, 6, 9 with 10, and 11 leave
 pub record Allows : Type 1 where
   pub row : Type 0
@@ -105,7 +108,7 @@ Route k row route = (route ≡ 1) ⊎ ((route ≡ 2) × (Between 1 3 k × ((row 
 
 pub record WithinRanges (b : List ℕ) : Type 0 where
   pub sixty-four : length b ≡ 64
-  pub kind : Between 1 7 (kindOf b)
+  pub kind : IsKind (kindOf b)
   pub row : allowedBy (kindOf b) b .row
   pub route : Route (kindOf b) (rowOf b) (routeOf b)
   pub user : allowedBy (kindOf b) b .user
