@@ -20,7 +20,7 @@ use Rattle.scenario.specs.declared.Head.{Head}
 use Rattle.product.specs.Ratio.{_over_, _·_, exactly, roundedUp}
 use Rattle.product.specs.Chain.{Factor, number, quantity, less, chain}
 use Rattle.equations.specs.Rows.{cities, noCity, cityAt, hygienes, noHygiene, hygieneAt}
-use Rattle.equations.specs.Equations.{total, loss, measured, measuredAt, unknown, unknownAt, application, applicationAt, formulation, consumption, consumptionAt, toWater, toAir, toSoil, microgram, micrograms}
+use Rattle.equations.specs.Equations.{total, loss, measured, measuredAt, unknown, unknownAt, application, applicationAt, formulation, consumption, consumptionAt, emitted, toWater, toAir, toSoil, microgram, micrograms}
 use Rattle.emission.specs.Figures.{exactValues, figuresOf}
 use Rattle.equations.specs.Ranges.{Within, InRange}
 use Rattle.equations.specs.Constants.{numbers}
@@ -29,7 +29,7 @@ use Rattle.equations.proofs.Chains.{others, gather}
 use Rattle.equations.proofs.Multiplied.{productOf, chain-at-most, remainder-at-most, term, next}
 use Rattle.emission.proofs.Accepted.{figure-rounded}
 use Rattle.emission.proofs.InRanges.{in-range}
-use Rattle.emission.proofs.Cases.{by-row, with-loss, of-air, of-soil, each-value}
+use Rattle.emission.proofs.Cases.{by-row, with-loss, OfAll, alone, each-value}
 use Rattle.emission.proofs.Positive.{lower-not-zero}
 
 -- ── chains and sums of chains
@@ -110,49 +110,54 @@ by-formulation : (h : Head) (a b x : Float) → 1 ≤ h .count → Within (a ∷
 unfolding numbers others productOf
 by-formulation h a b x t w = (cap-chain (term (formulation a b x (h .count))) (productOf (1000000 ∷ 1 ∷ 1 ∷ [])) (chain-at-most (a ∷ b ∷ x ∷ []) (1000000 ∷ 1 ∷ 1 ∷ []) w) (omega arith), tt)
 
-capped-water : (k : Case) (h : Head) → InRange k h → Capped (toWater k h)
-unfolding InRange Within toWater numbers others productOf small every cities chain
-capped-water (Measured a b c s) h r =
+capped : (k : Case) (h : Head) → InRange k h → OfAll Capped (emitted k h)
+unfolding InRange Within emitted numbers others productOf small every cities chain
+capped (Measured a b c s) h r =
     let w = r .2 in
-    by-row Capped (h .row) (measured a b c (quantity (s .area)) (h .count)) (measuredAt a b c (cityAt (h .row)))
+    alone (by-row Capped (h .row) (measured a b c (quantity (s .area)) (h .count)) (measuredAt a b c (cityAt (h .row)))
     (λ z.
     let l = r .1 z in (
       cap-chain (term (measured a b c (quantity (s .area)) (h .count))) (productOf (1 ∷ 100 ∷ 1000 ∷ [])) (chain-at-most (c ∷ a ∷ s .area ∷ []) (1 ∷ 100 ∷ 1000 ∷ []) (w .1 .1 .0, (w .0, (w .1 .1 .1 .0, tt)))) (omega arith),
       (cap-chain (next (measured a b c (quantity (s .area)) (h .count))) (productOf (1 ∷ 100 ∷ 1000 ∷ [])) (chain-at-most (c ∷ b ∷ s .area ∷ []) (1 ∷ 100 ∷ 1000 ∷ []) (w .1 .1 .0, (w .1 .0, (w .1 .1 .1 .0, tt)))) (older-cap (h .count) (h .count - 30) l), tt),
     ))
-    (measured-rows a b c (h .row) (w .1 .1 .0, (w .0, tt)) (w .1 .1 .0, (w .1 .0, tt)))
-capped-water (Unknown a c s) h r =
+    (measured-rows a b c (h .row) (w .1 .1 .0, (w .0, tt)) (w .1 .1 .0, (w .1 .0, tt))))
+capped (Unknown a c s) h r =
     let w = r .2 in
-    by-row Capped (h .row) (unknown a c (quantity (s .area)) (quantity (s .volume)) (quantity (s .density)) (h .count)) (unknownAt a c (cityAt (h .row)))
+    alone (by-row Capped (h .row) (unknown a c (quantity (s .area)) (quantity (s .volume)) (quantity (s .density)) (h .count)) (unknownAt a c (cityAt (h .row)))
     (λ z.
     let l = r .1 z in
     (cap-chain (term (unknown a c (quantity (s .area)) (quantity (s .volume)) (quantity (s .density)) (h .count))) (productOf (1 ∷ 1000 ∷ 100 ∷ 5000 ∷ 1 ∷ [])) (chain-at-most (c ∷ s .area ∷ s .volume ∷ s .density ∷ a ∷ []) (1 ∷ 1000 ∷ 100 ∷ 5000 ∷ 1 ∷ []) w) (omega arith), tt))
-    (unknown-rows a c (h .row) (w .0, (w .1 .1 .1 .1 .0, tt)))
-capped-water (Application a s) h r =
+    (unknown-rows a c (h .row) (w .0, (w .1 .1 .1 .1 .0, tt))))
+capped (Application a s) h r =
     let w = r .2 in
     let own : Factor → List (List Factor) = (λ B. application a (quantity (s .area)) (quantity (s .volume)) (quantity (s .density)) B (h .count)) in
     let most = chain-at-most (s .area ∷ s .volume ∷ s .density ∷ a ∷ []) (1000 ∷ 100 ∷ 5000 ∷ 1 ∷ []) w in
     let n = r .1 in
-    by-row Capped (h .row) (own (loss (h .user))) (applicationAt a (loss (h .user)) (cityAt (h .row)))
+    alone (by-row Capped (h .row) (own (loss (h .user))) (applicationAt a (loss (h .user)) (cityAt (h .row)))
     (λ z. with-loss Capped (h .user) own
     (cap-chain (term (own (number 3 100))) (productOf (1000 ∷ 100 ∷ 5000 ∷ 1 ∷ [])) most (omega arith), tt)
     (cap-chain (term (own (number 5 100))) (productOf (1000 ∷ 100 ∷ 5000 ∷ 1 ∷ [])) most (omega arith), tt))
-    (with-loss Capped (h .user) (λ B. applicationAt a B (cityAt (h .row))) (application-rows a 3 (h .row) refl refl (w .1 .1 .1 .0, tt)) (application-rows a 5 (h .row) refl refl (w .1 .1 .1 .0, tt)))
-capped-water (Sanitary a b c) h r =
+    (with-loss Capped (h .user) (λ B. applicationAt a B (cityAt (h .row))) (application-rows a 3 (h .row) refl refl (w .1 .1 .1 .0, tt)) (application-rows a 5 (h .row) refl refl (w .1 .1 .1 .0, tt))))
+capped (Sanitary a b c) h r =
     let w = r .1 in
     let D : ℕ = cond (eqb (h .row) 0) (h .count) 260 in
     let d : 1 ≤ D = by-row (λ t. 1 ≤ t) (h .row) (h .count) 260 (r .0) (omega arith) in
-    (cap-chain (term (toWater (Sanitary a b c) h)) (1000000 * (1 * productOf (1 ∷ []))) (at-most-times (exactly a) (chain (less b ∷ quantity c ∷ [])) 1000000 (1 * productOf (1 ∷ [])) (w .1 .0 .most) (remainder-at-most b (c ∷ []) (1 ∷ []) (w .1 .1 .0, tt))) (omega arith), tt)
-capped-water (Formulation a b c d e) h r = let w = r .1 in by-formulation h a b c (r .0) (w .0, (w .1 .0, (w .1 .1 .0, tt)))
-capped-water (Hygiene a b g m s) h r =
+    alone (cap-chain (term (toWater (Sanitary a b c) h)) (1000000 * (1 * productOf (1 ∷ []))) (at-most-times (exactly a) (chain (less b ∷ quantity c ∷ [])) 1000000 (1 * productOf (1 ∷ [])) (w .1 .0 .most) (remainder-at-most b (c ∷ []) (1 ∷ []) (w .1 .1 .0, tt))) (omega arith), tt)
+capped (Formulation a b c d e) h r =
+    let w = r .1 in (
+      by-formulation h a b c (r .0) (w .0, (w .1 .0, (w .1 .1 .0, tt))),
+      by-formulation h a b d (r .0) (w .0, (w .1 .0, (w .1 .1 .1 .0, tt))),
+      by-formulation h a b e (r .0) (w .0, (w .1 .0, (w .1 .1 .1 .1 .0, tt))),
+    )
+capped (Hygiene a b g m s) h r =
     let w = r .1 in
-    by-row Capped (h .row) (consumption a b (quantity g) (quantity m) (quantity s)) (consumptionAt a b (hygieneAt (h .row)))
+    alone (by-row Capped (h .row) (consumption a b (quantity g) (quantity m) (quantity s)) (consumptionAt a b (hygieneAt (h .row)))
     (λ z. (cap-chain (term (consumption a b (quantity g) (quantity m) (quantity s))) (productOf (1 ∷ 100 ∷ 10000 ∷ 1 ∷ 1 ∷ [])) (chain-at-most (s ∷ m ∷ g ∷ a ∷ b ∷ []) (1 ∷ 100 ∷ 10000 ∷ 1 ∷ 1 ∷ []) w) (omega arith), tt))
-    (consumption-rows a b (h .row) (w .1 .1 .1 .0, (w .1 .1 .1 .1 .0, tt)))
-capped-water (Toilets a b c d e) h r =
+    (consumption-rows a b (h .row) (w .1 .1 .1 .0, (w .1 .1 .1 .1 .0, tt))))
+capped (Toilets a b c d e) h r =
     let w = r .1 in
     let N : ℕ = cond (eqb (h .row) 0) (h .count) 1 in
-    let n : N ≤ 100 = by-row (λ t. t ≤ 100) (h .row) (h .count) 1 (λ z. r .0) (omega arith) in (
+    let n : N ≤ 100 = by-row (λ t. t ≤ 100) (h .row) (h .count) 1 (λ z. r .0) (omega arith) in alone (
       cap-chain (term (toWater (Toilets a b c d e) h)) (1 * (5 * (1 * (1 * productOf (1 ∷ []))))) (at-most-times (exactly a) (chain (quantity c ∷ quantity b ∷ less d ∷ quantity e ∷ [])) 1 (5 * (1 * (1 * productOf (1 ∷ [])))) (w .1 .0 .most)
           (at-most-times (exactly c) (chain (quantity b ∷ less d ∷ quantity e ∷ [])) 5 (1 * (1 * productOf (1 ∷ []))) (w .1 .1 .0 .most)
           (at-most-times (exactly b) (chain (less d ∷ quantity e ∷ [])) 1 (1 * productOf (1 ∷ [])) (w .1 .1 .1 .0 .most) (remainder-at-most d (e ∷ []) (1 ∷ []) (w .1 .1 .1 .1 .0, tt))))) (omega arith),
@@ -162,14 +167,11 @@ capped-water (Toilets a b c d e) h r =
 -- ── the four figures
 
 value-most : (b : List ℕ) → refusalOf b ≡ 0 → (i : ℕ) → i < 4 → AtMost (getD (exactValues b) i (0 over 1)) (2 * cap)
-value-most b none i l =
+value-most b none =
     let k = caseOf b in
     let h = headOf b in
-    let r = in-range b none in
-    each-value (λ p. AtMost p (2 * cap)) b (omega arith)
-    (total-capped 2 (toWater k h) (capped-water k h r))
-    (total-capped 2 (toAir k h) (of-air Capped h tt (by-formulation h) k r))
-    (total-capped 2 (toSoil k h) (of-soil Capped h tt (by-formulation h) k r)) i l
+    let c = capped k h (in-range b none) in
+    each-value (λ p. AtMost p (2 * cap)) b (omega arith) (total-capped 2 (toWater k h) (c .0), total-capped 2 (toAir k h) (c .1), total-capped 2 (toSoil k h) (c .2))
 
 pub figures-fit : (b : List ℕ) → refusalOf b ≡ 0 → (i : ℕ) → i < 4 → getD (figuresOf b) i 0 < 2 ^ 64
 figures-fit b e i h =

@@ -1,5 +1,5 @@
 -- No lower number of an exact value is 0.
---   positive-water      of the equation to water of a case in range
+--   positive-emitted    of the emissions of a case in range
 --   lower-not-zero      of the four exact values of a case without refusal
 use mathlib.Core.Path.{_≡_, refl}
 use mathlib.Core.Bool.{Bool, true, _&&_}
@@ -19,14 +19,14 @@ use Rattle.binary64.proofs.Bools.{both, every, every-at}
 use Rattle.product.specs.Ratio.{_over_}
 use Rattle.equations.specs.Rows.{cities, noCity, cityAt, hygienes, noHygiene, hygieneAt}
 use Rattle.product.specs.Chain.{Factor, number, quantity}
-use Rattle.equations.specs.Equations.{measuredAt, unknownAt, application, applicationAt, formulation, consumptionAt, toWater, toAir, toSoil}
+use Rattle.equations.specs.Equations.{emitted, measuredAt, unknownAt, application, applicationAt, formulation, consumptionAt, toWater, toAir, toSoil}
 use Rattle.emission.specs.Figures.{exactValues}
 use Rattle.equations.specs.Ranges.{InRange}
 use Rattle.equations.specs.Constants.{numbers}
 use Rattle.equations.proofs.Chains.{AllPositive, emission-positive}
 use Rattle.equations.proofs.Tables.{older-positive}
 use Rattle.emission.proofs.InRanges.{in-range}
-use Rattle.emission.proofs.Cases.{by-row, with-loss, of-air, of-soil, each-value}
+use Rattle.emission.proofs.Cases.{by-row, with-loss, OfAll, alone, each-value}
 
 -- ── the rows of the paper: one computed test over each table
 
@@ -57,32 +57,28 @@ consumption-rows a b row = all-positive (consumptionAt a b (hygieneAt row)) (eve
 
 -- ── each kind
 
-positive-water : (k : Case) (h : Head) → InRange k h → AllPositive (toWater k h)
-unfolding InRange toWater AllPositive numbers
-positive-water (Measured a b c s) h r =
-    by-row AllPositive (h .row) _ _ (λ z. let l = r .1 z in (omega arith, (older-positive (h .count) (h .count - 30) (omega arith) (omega arith), tt))) (measured-rows a b c (h .row))
-positive-water (Unknown a c s) h r = by-row AllPositive (h .row) _ _ (λ z. let l = r .1 z in (omega arith, tt)) (unknown-rows a c (h .row))
-positive-water (Application a s) h r =
-    by-row AllPositive (h .row) _ _ (λ z. with-loss AllPositive (h .user) (λ B. application a (quantity (s .area)) (quantity (s .volume)) (quantity (s .density)) B (h .count)) (omega arith, tt) (omega arith, tt))
-    (with-loss AllPositive (h .user) (λ B. applicationAt a B (cityAt (h .row))) (application-rows a 3 (h .row)) (application-rows a 5 (h .row)))
-positive-water (Sanitary a b c) h r = let d = by-row (λ t. 1 ≤ t) (h .row) (h .count) 260 (r .0) (omega arith) in (omega arith, tt)
-positive-water (Formulation a b c d e) h r = let t = r .0 in (omega arith, tt)
-positive-water (Hygiene a b g m s) h r = by-row AllPositive (h .row) _ _ (λ z. (omega arith, tt)) (consumption-rows a b (h .row))
-positive-water (Toilets a b c d e) h r = (omega arith, tt)
-
-by-formulation : (h : Head) (a b x : Float) → 1 ≤ h .count → AllPositive (formulation a b x (h .count))
+by-formulation : (a b x : Float) (t : ℕ) → 1 ≤ t → AllPositive (formulation a b x t)
 unfolding AllPositive numbers
-by-formulation h a b x t = (omega arith, tt)
+by-formulation a b x t h = (omega arith, tt)
+
+positive-emitted : (k : Case) (h : Head) → InRange k h → OfAll AllPositive (emitted k h)
+unfolding InRange emitted AllPositive numbers
+positive-emitted (Measured a b c s) h r =
+    alone (by-row AllPositive (h .row) _ _ (λ z. let l = r .1 z in (omega arith, (older-positive (h .count) (h .count - 30) (omega arith) (omega arith), tt))) (measured-rows a b c (h .row)))
+positive-emitted (Unknown a c s) h r = alone (by-row AllPositive (h .row) _ _ (λ z. let l = r .1 z in (omega arith, tt)) (unknown-rows a c (h .row)))
+positive-emitted (Application a s) h r =
+    alone (by-row AllPositive (h .row) _ _ (λ z. with-loss AllPositive (h .user) (λ B. application a (quantity (s .area)) (quantity (s .volume)) (quantity (s .density)) B (h .count)) (omega arith, tt) (omega arith, tt))
+    (with-loss AllPositive (h .user) (λ B. applicationAt a B (cityAt (h .row))) (application-rows a 3 (h .row)) (application-rows a 5 (h .row))))
+positive-emitted (Sanitary a b c) h r = let d = by-row (λ t. 1 ≤ t) (h .row) (h .count) 260 (r .0) (omega arith) in alone (omega arith, tt)
+positive-emitted (Formulation a b c d e) h r = (by-formulation a b c (h .count) (r .0), by-formulation a b d (h .count) (r .0), by-formulation a b e (h .count) (r .0))
+positive-emitted (Hygiene a b g m s) h r = alone (by-row AllPositive (h .row) _ _ (λ z. (omega arith, tt)) (consumption-rows a b (h .row)))
+positive-emitted (Toilets a b c d e) h r = alone (omega arith, tt)
 
 -- ── the four exact values
 
 pub lower-not-zero : (b : List ℕ) → refusalOf b ≡ 0 → (i : ℕ) → i < 4 → 0 < getD (exactValues b) i (0 over 1) .lower
-unfolding AllPositive
-lower-not-zero b none i l =
+lower-not-zero b none =
     let k = caseOf b in
     let h = headOf b in
-    let r = in-range b none in
-    each-value (λ p. 0 < p .lower) b (omega arith)
-    (emission-positive (toWater k h) (positive-water k h r))
-    (emission-positive (toAir k h) (of-air AllPositive h tt (λ a b x t w. by-formulation h a b x t) k r))
-    (emission-positive (toSoil k h) (of-soil AllPositive h tt (λ a b x t w. by-formulation h a b x t) k r)) i l
+    let p = positive-emitted k h (in-range b none) in
+    each-value (λ p. 0 < p .lower) b (omega arith) (emission-positive (toWater k h) (p .0), emission-positive (toAir k h) (p .1), emission-positive (toSoil k h) (p .2))

@@ -84,8 +84,3 @@ Gives b (exact ps) =
 unfoldable pub Holds : Example → Type 0
 unfolding Gives
 Holds e = Gives (e .case) (e .expected)
-
-unfoldable pub All : List Example → Type 0
-unfolding Holds
-All [] = Unit {0}
-All (e ∷ es) = Holds e × All es

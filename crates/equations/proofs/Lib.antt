@@ -1,4 +1,5 @@
 -- Laws of this crate.
+pub mod Quantities
 pub mod Chains
 pub mod Multiplied
 pub mod Tables

@@ -77,47 +77,47 @@ consumptionAt a b r = consumption a b (fixed (r .grams)) (fixed (r .uses)) (fixe
 abbrev pub toilets : Float → Float → Float → Float → Float → ℕ → List (List Factor)
 toilets a b c d e N = (quantity a ∷ quantity c ∷ quantity b ∷ number 20 1 ∷ less d ∷ quantity e ∷ number 2000 60 ∷ number N 1 ∷ []) ∷ []
 
--- ── the emission of a case to water, air and soil: with row 0 what the case has, otherwise the row's numbers
+-- ── the emissions of a case to water, air and soil; a sum of no chains is 0
 
-unfoldable pub toWater : Case → Head → List (List Factor)
-toWater (Measured a b c s) h =
-    cond (eqb (h .row) 0)
+pub record Emitted : Type 0 where
+  pub water : List (List Factor)
+  pub air : List (List Factor)
+  pub soil : List (List Factor)
+
+abbrev pub onlyWater : List (List Factor) → Emitted
+onlyWater w = record { water = w; air = []; soil = [] }
+
+-- with row 0 what the case has, otherwise the row's numbers
+unfoldable pub emitted : Case → Head → Emitted
+emitted (Measured a b c s) h =
+    onlyWater (cond (eqb (h .row) 0)
     (measured a b c (quantity (s .area)) (h .count))
-    (measuredAt a b c (cityAt (h .row)))
-toWater (Unknown a c s) h =
-    cond (eqb (h .row) 0)
+    (measuredAt a b c (cityAt (h .row))))
+emitted (Unknown a c s) h =
+    onlyWater (cond (eqb (h .row) 0)
     (unknown a c (quantity (s .area)) (quantity (s .volume)) (quantity (s .density)) (h .count))
-    (unknownAt a c (cityAt (h .row)))
-toWater (Application a s) h =
-    cond (eqb (h .row) 0)
+    (unknownAt a c (cityAt (h .row))))
+emitted (Application a s) h =
+    onlyWater (cond (eqb (h .row) 0)
     (application a (quantity (s .area)) (quantity (s .volume)) (quantity (s .density)) (loss (h .user)) (h .count))
-    (applicationAt a (loss (h .user)) (cityAt (h .row)))
-toWater (Sanitary a b c) h = sanitary a b c (cond (eqb (h .row) 0) (h .count) 260)
-toWater (Formulation a b c d e) h = formulation a b c (h .count)
-toWater (Hygiene a b g m s) h =
-    cond (eqb (h .row) 0)
+    (applicationAt a (loss (h .user)) (cityAt (h .row))))
+emitted (Sanitary a b c) h = onlyWater (sanitary a b c (cond (eqb (h .row) 0) (h .count) 260))
+emitted (Formulation a b c d e) h =
+    record { water = formulation a b c (h .count); air = formulation a b d (h .count); soil = formulation a b e (h .count) }
+emitted (Hygiene a b g m s) h =
+    onlyWater (cond (eqb (h .row) 0)
     (consumption a b (quantity g) (quantity m) (quantity s))
-    (consumptionAt a b (hygieneAt (h .row)))
-toWater (Toilets a b c d e) h = toilets a b c d e (cond (eqb (h .row) 0) (h .count) 1)
+    (consumptionAt a b (hygieneAt (h .row))))
+emitted (Toilets a b c d e) h = onlyWater (toilets a b c d e (cond (eqb (h .row) 0) (h .count) 1))
 
--- kind 5 alone has equations for air and soil; a sum of no chains is 0
-unfoldable pub toAir : Case → Head → List (List Factor)
-toAir (Measured a b c s) h = []
-toAir (Unknown a c s) h = []
-toAir (Application a s) h = []
-toAir (Sanitary a b c) h = []
-toAir (Formulation a b c d e) h = formulation a b d (h .count)
-toAir (Hygiene a b g m s) h = []
-toAir (Toilets a b c d e) h = []
+abbrev pub toWater : Case → Head → List (List Factor)
+toWater k h = emitted k h .water
 
-unfoldable pub toSoil : Case → Head → List (List Factor)
-toSoil (Measured a b c s) h = []
-toSoil (Unknown a c s) h = []
-toSoil (Application a s) h = []
-toSoil (Sanitary a b c) h = []
-toSoil (Formulation a b c d e) h = formulation a b e (h .count)
-toSoil (Hygiene a b g m s) h = []
-toSoil (Toilets a b c d e) h = []
+abbrev pub toAir : Case → Head → List (List Factor)
+toAir k h = emitted k h .air
+
+abbrev pub toSoil : Case → Head → List (List Factor)
+toSoil k h = emitted k h .soil
 
 -- ── in micrograms
 

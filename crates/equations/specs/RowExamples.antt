@@ -106,7 +106,7 @@ Worked e =
     × Same (micrograms (toAir k h)) (e .air)
     × Same (micrograms (toSoil k h)) (e .soil)
 
-unfoldable pub AllWorked : List RowExample → Type 0
-unfolding Worked
-AllWorked [] = Unit {0}
-AllWorked (e ∷ es) = Worked e × AllWorked es
+-- each entry of a table
+unfoldable pub All : {A : Type 0} → (A → Type 0) → List A → Type 0
+All P [] = Unit {0}
+All P (x ∷ xs) = P x × All P xs

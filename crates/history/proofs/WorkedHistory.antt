@@ -7,13 +7,13 @@ use lib.Ieee.{ofBits, toBits, add, le}
 use Rattle.binary64.specs.Bytes.{bytesOf, numberOf, numberAt}
 use Rattle.binary64.specs.Pattern.{isUnsignedFinite}
 use Rattle.binary64.specs.Quantity.{wholeAt, whole}
-use Rattle.scenario.specs.Case.{kinds, kindAt, listingsAt, notSixtyFour, kindUnknown, rowUnknown, routeNotAllowed, userNotAllowed, countNotAllowed, notNumber, notZeroBytes, overLimit, sumWithin, sumOver, refusalOf}
+use Rattle.scenario.specs.Case.{kinds, kindAt, notSixtyFour, kindUnknown, rowUnknown, routeNotAllowed, userNotAllowed, countNotAllowed, notNumber, notZeroBytes, overLimit, sumFrom, sumWithin, summedOf, sumOver, refusalOf}
 use Rattle.scenario.specs.Decoding.{caseWith, caseOfPatterns, headOf}
 use Rattle.scenario.specs.Builder.{caseBytes}
 use Rattle.natural.specs.Ceiling.{ceiling}
 use Rattle.product.specs.Chain.{chain}
 use Rattle.equations.specs.Rows.{cities, cityAt, hygienes, hygieneAt}
-use Rattle.equations.specs.Equations.{total, toWater, toAir, toSoil}
+use Rattle.equations.specs.Equations.{total, emitted}
 use Rattle.emission.specs.Figures.{exactValues, figuresOf}
 use Rattle.records.specs.Layout.{figureBytes, recordOf, records, trailer, archiveOf, recordSize, edition}
 use Rattle.records.specs.Lines.{sameFiling, held, figure, highest, firstWith, worstOf}
@@ -23,7 +23,7 @@ use Rattle.history.specs.History.{AllFed}
 use Rattle.history.specs.WorkedHistory.{Told, workedHistory, workedArchive}
 
 pub worked-history : answers 496 [] (map (λ (t : Told). t .call) workedHistory) ≡ map (λ (t : Told). t .answer) workedHistory
-unfolding workedHistory answers answer after judgedEmpty judgedFile judgedShow judgedWorst sameFiling held full figure highest firstWith worstOf figureBytes recordOf caseBytes bytesOf numberOf numberAt kinds kindAt listingsAt notSixtyFour kindUnknown rowUnknown routeNotAllowed userNotAllowed countNotAllowed notNumber isUnsignedFinite notZeroBytes overLimit whole wholeAt sumOver sumWithin add le ofBits
+unfolding workedHistory answers answer after judgedEmpty judgedFile judgedShow judgedWorst sameFiling held full figure highest firstWith worstOf figureBytes recordOf caseBytes bytesOf numberOf numberAt kinds kindAt notSixtyFour kindUnknown rowUnknown routeNotAllowed userNotAllowed countNotAllowed notNumber isUnsignedFinite notZeroBytes overLimit whole wholeAt sumOver summedOf sumWithin sumFrom add le ofBits
 worked-history = refl
 
 infixr 1 _and_
@@ -32,7 +32,7 @@ a and b = (a, b)
 
 -- also of the case that is refused, whose figures are zeros
 pub worked-fed : AllFed (map (λ (t : Told). t .call) workedHistory)
-unfolding workedHistory caseBytes bytesOf figuresOf exactValues toWater toAir toSoil chain total cities cityAt hygienes hygieneAt caseOfPatterns caseWith headOf numberAt numberOf refusalOf notSixtyFour kindUnknown rowUnknown routeNotAllowed userNotAllowed countNotAllowed notNumber notZeroBytes overLimit sumWithin sumOver kinds kindAt listingsAt isUnsignedFinite whole wholeAt add le ofBits toBits ceiling
+unfolding workedHistory caseBytes bytesOf figuresOf exactValues emitted chain total cities cityAt hygienes hygieneAt caseOfPatterns caseWith headOf numberAt numberOf refusalOf notSixtyFour kindUnknown rowUnknown routeNotAllowed userNotAllowed countNotAllowed notNumber notZeroBytes overLimit sumFrom sumWithin summedOf sumOver kinds kindAt isUnsignedFinite whole wholeAt add le ofBits toBits ceiling
 worked-fed =
     tt and tt and tt and tt
     and (λ e. refl) and (λ e. refl) and (λ e. refl) and (λ e. refl) and (λ e. refl) and (λ e. refl) and (λ e. refl) and (λ e. refl) and (λ e. refl) and (λ e. refl) and (λ e. refl)
@@ -42,5 +42,5 @@ worked-fed =
     and tt
 
 pub worked-archive : archiveOf recordSize edition (lines 496 [] (map (λ (t : Told). t .call) workedHistory)) ≡ workedArchive
-unfolding workedHistory lines after judgedEmpty judgedFile sameFiling held full figureBytes recordOf records trailer archiveOf caseBytes bytesOf numberOf numberAt kinds kindAt listingsAt notSixtyFour kindUnknown rowUnknown routeNotAllowed userNotAllowed countNotAllowed notNumber isUnsignedFinite notZeroBytes overLimit whole wholeAt sumOver sumWithin add le ofBits
+unfolding workedHistory lines after judgedEmpty judgedFile sameFiling held full figureBytes recordOf records trailer archiveOf caseBytes bytesOf numberOf numberAt kinds kindAt notSixtyFour kindUnknown rowUnknown routeNotAllowed userNotAllowed countNotAllowed notNumber isUnsignedFinite notZeroBytes overLimit whole wholeAt sumOver summedOf sumWithin sumFrom add le ofBits
 worked-archive = refl

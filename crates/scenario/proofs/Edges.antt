@@ -1,23 +1,25 @@
 -- `edges-hold`: each edge that paper 01 prints has its refusal, by computation on the bytes of the whole case.
--- `ends-hold`: each end of what a kind allows is allowed. `told-hold`: each refusal from 1 to 11 has its number, and of two neighbours the first is told. Further cases run in the program `cases`.
+-- `told-hold`: each refusal from 1 to 11 has its number, and of two neighbours the first is told. Further cases run in the program `cases`.
+-- That each end of what a kind allows is allowed, and nothing beyond, is `accepted-exactly`, in `Ranges`.
 use mathlib.Core.Path.{_≡_, refl}
-use mathlib.Core.List.{map}
+use mathlib.Core.List.{List, map}
 use lib.Ieee.{ofBits, add, le}
 use Rattle.binary64.specs.Bytes.{bytesOf, numberAt}
 use Rattle.binary64.specs.Pattern.{isUnsignedFinite}
 use Rattle.binary64.specs.Quantity.{whole}
-use Rattle.scenario.specs.Case.{kindAt, listingsAt, notSixtyFour, kindUnknown, rowUnknown, routeNotAllowed, userNotAllowed, countNotAllowed, notNumber, notZeroBytes, overLimit, sumWithin, sumOver, refusalOf}
+use Rattle.scenario.specs.Case.{kindAt, notSixtyFour, kindUnknown, rowUnknown, routeNotAllowed, userNotAllowed, countNotAllowed, notNumber, notZeroBytes, overLimit, sumFrom, sumWithin, summedOf, sumOver, refusalOf}
 use Rattle.scenario.specs.Builder.{caseBytes}
-use Rattle.scenario.specs.Edges.{Edge, edges, ends, told}
+use Rattle.scenario.specs.Edges.{Edge, edges, told}
 
-pub edges-hold : map (λ (e : Edge). refusalOf (e .case)) edges ≡ map (λ (e : Edge). e .refusal) edges
-unfolding caseBytes bytesOf numberAt kindAt listingsAt notSixtyFour kindUnknown rowUnknown routeNotAllowed userNotAllowed countNotAllowed notNumber isUnsignedFinite notZeroBytes overLimit whole sumOver sumWithin add le ofBits refusalOf
-edges-hold = refl
+abbrev pub Hold : List Edge → Type 0
+Hold es = map (λ (e : Edge). refusalOf (e .case)) es ≡ map (λ (e : Edge). e .refusal) es
 
-pub ends-hold : map (λ (e : Edge). refusalOf (e .case)) ends ≡ map (λ (e : Edge). e .refusal) ends
-unfolding caseBytes bytesOf numberAt kindAt listingsAt notSixtyFour kindUnknown rowUnknown routeNotAllowed userNotAllowed countNotAllowed notNumber isUnsignedFinite notZeroBytes overLimit whole sumOver sumWithin add le ofBits refusalOf
-ends-hold = refl
+computed : Hold edges × Hold told
+unfolding caseBytes bytesOf numberAt kindAt notSixtyFour kindUnknown rowUnknown routeNotAllowed userNotAllowed countNotAllowed notNumber isUnsignedFinite notZeroBytes overLimit whole sumOver summedOf sumWithin sumFrom add le ofBits refusalOf
+computed = (refl, refl)
 
-pub told-hold : map (λ (e : Edge). refusalOf (e .case)) told ≡ map (λ (e : Edge). e .refusal) told
-unfolding caseBytes bytesOf numberAt kindAt listingsAt notSixtyFour kindUnknown rowUnknown routeNotAllowed userNotAllowed countNotAllowed notNumber isUnsignedFinite notZeroBytes overLimit whole sumOver sumWithin add le ofBits refusalOf
-told-hold = refl
+pub edges-hold : Hold edges
+edges-hold = computed .0
+
+pub told-hold : Hold told
+told-hold = computed .1

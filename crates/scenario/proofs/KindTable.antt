@@ -1,107 +1,88 @@
--- Laws of the table of kinds: `by-kind` (what holds of each kind, and of what is none), `no-kind`, `each-kind` and `each-row` (kinds 1 to 7, rows 0 to 7),
--- `paper-rows-count` (T with the paper's rows), `city-rows` and `city-life` (of the kinds for a city), `other-users`.
--- Of ranges: `in-range`, `then-within`, `only-zero`.
+-- Laws of the table of kinds: `no-kind` (what is none of them), `each-kind` (what holds of each), `tested` (one computed test of all, by their numbers),
+-- `not-summed` (of which nothing is summed). Of ranges: `inside`.
 -- Laws of limits are in `Limits`.
 use mathlib.Core.Path.{_≡_, refl}
-use mathlib.Core.Bool.{true}
-use Prim.Native.Nat.{ℕ, zero, suc, _≤_}
+use mathlib.Core.Bool.{Bool, true, false, _&&_, _||_}
+use mathlib.Core.List.{List, [], _∷_}
+use Prim.Native.Nat.{ℕ, zero, suc, _+_, _≤_, _<_}
+use native.Mathlib.Nat.{add-zero, zero-add, add-suc, suc-add}
 use native.Mathlib.Omega.{arith}
-use lib.Dec.{leb}
-use borrow.Author.Tests.{leb-true, le-leb}
-use Rattle.scenario.specs.Case.{Range, within, _to_, kinds, noKind, kindAt}
+use lib.Dec.{leb, eqb}
+use lib.ListN.{length, getD, List·getD-eq-default}
+use borrow.Author.Tests.{leb-true, le-leb, eqb-true, eqb-false, ne-eqb}
+use Rattle.scenario.specs.Case.{Range, within, Kind, kinds, noKind, kindAt}
+use Rattle.scenario.specs.Ranges.{Between, IsKind}
 use Rattle.binary64.proofs.Bools.{both}
 
--- ── ranges
+pub inside : (r : Range) (n : ℕ) → (within r n ≡ true → Between (r .from) (r .to) n) × (Between (r .from) (r .to) n → within r n ≡ true)
+inside r n = (
+  λ h. let p = both (leb (r .from) n) (leb n (r .to)) h in (leb-true (r .from) n (p .0), leb-true n (r .to) (p .1)),
+  λ h. rw (le-leb (r .from) n (h .0), le-leb n (r .to) (h .1)),
+)
 
-pub in-range : (r : Range) (n : ℕ) → within r n ≡ true → (r .from ≤ n) × (n ≤ r .to)
-in-range r n h =
-    let p = both (leb (r .from) n) (leb n (r .to)) h in
-    (leb-true (r .from) n (p .0), leb-true n (r .to) (p .1))
+-- ── kinds by their numbers
 
-pub then-within : (r : Range) (n : ℕ) → r .from ≤ n → n ≤ r .to → within r n ≡ true
-then-within r n h l = rw (le-leb (r .from) n h, le-leb n (r .to) l)
+-- what a match on the numbers from 1 to n leaves to its last arm
+abbrev OtherThan : ℕ → ℕ → Type 0
+OtherThan zero k = Unit {0}
+OtherThan (suc n) k = OtherThan n k × (k ≡ suc n → ⊥)
 
-pub only-zero : (n : ℕ) → within (0 to 0) n ≡ true → n ≡ 0
-only-zero n w = let r = in-range (0 to 0) n w in omega arith
+above : (n k : ℕ) → 0 < k → OtherThan n k → n < k
+above zero k h o = h
+above (suc n) k h o = let l = above n k h (o .0) in let e = o .1 in omega arith
 
--- what is no kind allows nothing
-none-allowed : {A : Type 0} (n : ℕ) → within (1 to 0) n ≡ true → A
-none-allowed n w = let r = in-range (1 to 0) n w in absurd (omega arith)
-
--- ── kinds
-
-pub by-kind : (P : ℕ → Type 0) → P 1 → P 2 → P 3 → P 4 → P 5 → P 6 → P 7 → ((k : ℕ) → kindAt k ≡ noKind → P k) → (k : ℕ) → P k
+pub no-kind : (k : ℕ) → OtherThan (length kinds) k → kindAt k ≡ noKind
 unfolding kindAt
-by-kind P a b c d e f g h zero = h 0 refl
-by-kind P a b c d e f g h (suc zero) = a
-by-kind P a b c d e f g h (suc (suc zero)) = b
-by-kind P a b c d e f g h (suc (suc (suc zero))) = c
-by-kind P a b c d e f g h (suc (suc (suc (suc zero)))) = d
-by-kind P a b c d e f g h (suc (suc (suc (suc (suc zero))))) = e
-by-kind P a b c d e f g h (suc (suc (suc (suc (suc (suc zero)))))) = f
-by-kind P a b c d e f g h (suc (suc (suc (suc (suc (suc (suc zero))))))) = g
-by-kind P a b c d e f g h (suc (suc (suc (suc (suc (suc (suc (suc k)))))))) = h (suc (suc (suc (suc (suc (suc (suc (suc k)))))))) refl
+no-kind zero o = refl
+no-kind (suc k) o = List·getD-eq-default (noKind ∷ kinds) noKind (above (length kinds) (suc k) (omega arith) o)
 
-pub each-kind : (P : ℕ → Type 0) → P 1 → P 2 → P 3 → P 4 → P 5 → P 6 → P 7 → (k : ℕ) → 1 ≤ k → k ≤ 7 → P k
-each-kind P a b c d e f g zero h l = absurd (omega arith)
-each-kind P a b c d e f g (suc zero) h l = a
-each-kind P a b c d e f g (suc (suc zero)) h l = b
-each-kind P a b c d e f g (suc (suc (suc zero))) h l = c
-each-kind P a b c d e f g (suc (suc (suc (suc zero)))) h l = d
-each-kind P a b c d e f g (suc (suc (suc (suc (suc zero))))) h l = e
-each-kind P a b c d e f g (suc (suc (suc (suc (suc (suc zero)))))) h l = f
-each-kind P a b c d e f g (suc (suc (suc (suc (suc (suc (suc zero))))))) h l = g
-each-kind P a b c d e f g (suc (suc (suc (suc (suc (suc (suc (suc k)))))))) h l = absurd (omega arith)
+-- from 1 to n
+abbrev pub Each : (ℕ → Type 0) → ℕ → Type 0
+Each P zero = Unit {0}
+Each P (suc n) = Each P n × P (suc n)
 
-pub each-row : (P : ℕ → Type 0) → P 0 → P 1 → P 2 → P 3 → P 4 → P 5 → P 6 → P 7 → (row : ℕ) → row ≤ 7 → P row
-each-row P z a b c d e f g zero l = z
-each-row P z a b c d e f g (suc row) l = each-kind P a b c d e f g (suc row) (omega arith) l
+infixl 1 _then_
+pub _then_ : {A B : Type 0} → A → B → A × B
+a then b = (a, b)
 
--- what a match on the seven kinds leaves to its last arm
-abbrev OtherThan7 : ℕ → Type 0
-OtherThan7 k = ((((((Unit {0} × (k ≡ 1 → ⊥)) × (k ≡ 2 → ⊥)) × (k ≡ 3 → ⊥)) × (k ≡ 4 → ⊥)) × (k ≡ 5 → ⊥)) × (k ≡ 6 → ⊥)) × (k ≡ 7 → ⊥)
+each-to : (P : ℕ → Type 0) (n : ℕ) → Each P n → (k : ℕ) → 1 ≤ k → k ≤ n → P k
+each-to P zero e k h l = absurd (omega arith)
+each-to P (suc n) e k h l = go (eqb k (suc n)) refl (each-to P n (e .0) k h)
+  where
+    go : (t : Bool) → eqb k (suc n) ≡ t → (k ≤ n → P k) → P k
+    go true q below = rw (eqb-true k (suc n) q) (e .1)
+    go false q below = let m = eqb-false k (suc n) q in below (omega arith)
 
-pub no-kind : (k : ℕ) → OtherThan7 k → kindAt k ≡ noKind
-no-kind =
-    by-kind (λ k. OtherThan7 k → kindAt k ≡ noKind)
-    (λ o. absurd (o .0 .0 .0 .0 .0 .0 .1 refl))
-    (λ o. absurd (o .0 .0 .0 .0 .0 .1 refl))
-    (λ o. absurd (o .0 .0 .0 .0 .1 refl))
-    (λ o. absurd (o .0 .0 .0 .1 refl))
-    (λ o. absurd (o .0 .0 .1 refl))
-    (λ o. absurd (o .0 .1 refl))
-    (λ o. absurd (o .1 refl))
-    (λ k e o. e)
+pub each-kind : (P : ℕ → Type 0) → Each P (length kinds) → (k : ℕ) → IsKind k → P k
+unfolding kinds
+each-kind P e k h = each-to P (length kinds) e k (h .0) (h .1)
 
-pub paper-rows-count : (k t : ℕ) → within (kindAt k .rowCount) t ≡ true → t ≡ 0
-unfolding kindAt kinds
-paper-rows-count k t =
-    let z : within (0 to 0) t ≡ true → t ≡ 0 = only-zero t in
-    by-kind (λ k. within (kindAt k .rowCount) t ≡ true → t ≡ 0) z z z z z z z (λ k e w. none-allowed t (rw e at w)) k
+-- ── one test of all
 
-pub city-rows : (k row : ℕ) → k ≤ 3 → within (kindAt k .rows) row ≡ true → row ≤ 7
-unfolding kindAt kinds
-city-rows k row =
-    by-kind (λ k. k ≤ 3 → within (kindAt k .rows) row ≡ true → row ≤ 7)
-    (λ h w. in-range (0 to 7) row w .1) (λ h w. in-range (0 to 7) row w .1) (λ h w. in-range (0 to 7) row w .1)
-    (λ h w. absurd (omega arith)) (λ h w. absurd (omega arith)) (λ h w. absurd (omega arith)) (λ h w. absurd (omega arith))
-    (λ k e h w. none-allowed row (rw e at w))
-    k
+module _ (test : ℕ → Kind → Bool) where
+  unfoldable pub tests : ℕ → List Kind → Bool
+  tests n [] = true
+  tests n (x ∷ xs) = test n x && tests (suc n) xs
 
-pub city-life : (k t : ℕ) → k ≤ 2 → within (kindAt k .ownCount) t ≡ true → (31 ≤ t) × (t ≤ 36500)
-unfolding kindAt kinds
-city-life k t =
-    by-kind (λ k. k ≤ 2 → within (kindAt k .ownCount) t ≡ true → (31 ≤ t) × (t ≤ 36500))
-    (λ h w. in-range (31 to 36500) t w) (λ h w. in-range (31 to 36500) t w)
-    (λ h w. absurd (omega arith)) (λ h w. absurd (omega arith)) (λ h w. absurd (omega arith)) (λ h w. absurd (omega arith)) (λ h w. absurd (omega arith))
-    (λ k e h w. none-allowed t (rw e at w))
-    k
+  test-at : (xs : List Kind) (n : ℕ) → tests n xs ≡ true → ((k : ℕ) → test k noKind ≡ true) → (i : ℕ) → test (n + i) (getD xs i noKind) ≡ true
+  unfolding tests
+  test-at [] n e none i = none (n + i)
+  test-at (x ∷ xs) n e none zero = rw add-zero (both (test n x) (tests (suc n) xs) e .0)
+  test-at (x ∷ xs) n e none (suc i) = rw (add-suc n i, ← suc-add n i) (test-at xs (suc n) (both (test n x) (tests (suc n) xs) e .1) none i)
 
-pub other-users : (k user : ℕ) → (k ≡ 3 → ⊥) → within (kindAt k .users) user ≡ true → user ≡ 0
-unfolding kindAt kinds
-other-users k user =
-    let z : within (0 to 0) user ≡ true → user ≡ 0 = only-zero user in
-    by-kind (λ k. (k ≡ 3 → ⊥) → within (kindAt k .users) user ≡ true → user ≡ 0)
-    (λ h. z) (λ h. z) (λ h w. absurd (h refl)) (λ h. z) (λ h. z) (λ h. z) (λ h. z)
-    (λ k e h w. none-allowed user (rw e at w))
-    k
+  pub tested : tests 0 (noKind ∷ kinds) ≡ true → ((k : ℕ) → test k noKind ≡ true) → (k : ℕ) → test k (kindAt k) ≡ true
+  unfolding kindAt
+  tested e none k = rw zero-add at (test-at (noKind ∷ kinds) 0 e none k)
+
+empty : List ℕ → Bool
+empty [] = true
+empty (x ∷ xs) = false
+
+only-empty : (l : List ℕ) → (empty l || false) ≡ true → l ≡ []
+unfolding empty
+only-empty [] e = refl
+only-empty (x ∷ xs) e = let z : _≡_ {A = ℕ} 0 1 = cc in absurd (omega arith)
+
+pub not-summed : (k : ℕ) → (k ≡ 5 → ⊥) → kindAt k .summed ≡ []
+unfolding tests empty kinds
+not-summed k h = only-empty (kindAt k .summed) (rw (ne-eqb k 5 h) at (tested (λ i x. empty (x .summed) || eqb i 5) refl (λ i. refl) k))

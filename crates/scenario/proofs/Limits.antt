@@ -7,12 +7,13 @@ use mathlib.Core.List.{List, [], _∷_}
 use Prim.Native.Nat.{ℕ, zero, suc, _*_}
 use lib.Dec.{leb, eqb}
 use lib.Ieee.{ofInt, toBits}
-use lib.ListN.{getD}
-use borrow.Author.Tests.{eqb-true, eq-eqb, not-true}
+use lib.ListN.{List·getD-map}
+use native.Mathlib.Omega.{arith}
+use borrow.Author.Tests.{eqb-true, not-true}
 use Rattle.binary64.specs.Quantity.{whole, one}
 use Rattle.binary64.proofs.Order.{limit-as-pattern}
 use Rattle.scenario.specs.Refusal.{firstOf}
-use Rattle.scenario.specs.Case.{Listing, unlisted, upTo, Kind, kinds, noKind, kindAt, listingsAt, listingAt, anyNotNumber, notZeroBytes, overLimit, sumOver, quantityRefusals}
+use Rattle.scenario.specs.Case.{exactOf, Listing, unlisted, Kind, kinds, noKind, kindAt, listingAt, listed, limit, anyNotNumber, notZeroBytes, overLimit, sumOver, quantityRefusals}
 use Rattle.scenario.specs.Patterns.{at, IsLimit, limitPattern, limitPatterns, addFaults, faultsOf}
 use Rattle.scenario.specs.declared.quantities.Faults.{Faults}
 use Rattle.scenario.proofs.Six.{six-same}
@@ -20,59 +21,53 @@ use Rattle.binary64.proofs.Bools.{both, every, every-at}
 
 -- ── the rule of a limit, as a test
 
-isLimit : Listing → ℕ → Bool
-isLimit unlisted m = eqb m 0
-isLimit (upTo n) m = eqb (whole m) (n * one) && not (eqb m 0)
+isLimit : Bool → Listing → ℕ → Bool
+isLimit own l m = cond (listed own l) (eqb (exactOf m) (limit l * one) && not (eqb m 0)) (eqb m 0)
 
-limit-by-test : (l : Listing) (m : ℕ) → isLimit l m ≡ true → IsLimit l m
+limit-by-test : (own : Bool) (l : Listing) (m : ℕ) → isLimit own l m ≡ true → IsLimit own l m
 unfolding isLimit
-limit-by-test unlisted m e = eqb-true m 0 e
-limit-by-test (upTo n) m e =
-    let p = both (eqb (whole m) (n * one)) (not (eqb m 0)) e in
-    (eqb-true (whole m) (n * one) (p .0), not-true (eqb m 0) (p .1))
+limit-by-test own l m = go (listed own l) refl
+  where
+    go : (t : Bool) → listed own l ≡ t → cond t (eqb (exactOf m) (limit l * one) && not (eqb m 0)) (eqb m 0) ≡ true → IsLimit own l m
+    go true e h =
+        let p = both (eqb (exactOf m) (limit l * one)) (not (eqb m 0)) h in
+        record { none = rw e (not-true (eqb m 0) (p .1)); most = λ q. eqb-true (exactOf m) (limit l * one) (p .0) }
+    go false e h = record { none = rw e h; most = λ q. let z : _≡_ {A = ℕ} 0 1 = cc in absurd (omega arith) }
 
 -- ── of the whole table
 
-right : Listing → Bool
+right : Bool → Listing → Bool
 unfolding isLimit
-right l = isLimit l (limitPattern l)
+right own l = isLimit own l (limitPattern own l)
 
-rightOf : Kind → Bool
-unfolding every right
-rightOf k = every right (k .own) && every right (k .row)
+table-right : (k : ℕ) → every (λ (l : Listing). right true l && right false l) (kindAt k .quantities) ≡ true
+unfolding every right isLimit kindAt kinds limitPattern whole ofInt toBits
+table-right = every-at (λ (x : Kind). every (λ (l : Listing). right true l && right false l) (x .quantities)) (noKind ∷ kinds) noKind refl refl
 
-table-right : (k : ℕ) → rightOf (kindAt k) ≡ true
-unfolding rightOf every right isLimit kindAt kinds limitPattern whole ofInt toBits
-table-right = every-at rightOf (noKind ∷ kinds) noKind refl refl
-
-listings-right : (k row : ℕ) → every right (listingsAt k row) ≡ true
-unfolding rightOf listingsAt
-listings-right k row = go (eqb row 0)
+pub limits-right : (own : Bool) (k i : ℕ) → IsLimit own (listingAt k i) (at (limitPatterns own (kindAt k .quantities)) i)
+unfolding right limitPattern
+limits-right own k i =
+    let l = listingAt k i in
+    let t = both (right true l) (right false l) (every-at (λ (l : Listing). right true l && right false l) (kindAt k .quantities) unlisted (table-right k) refl i) in
+    rw (List·getD-map (limitPattern own) (kindAt k .quantities) i unlisted) (limit-by-test own l (limitPattern own l) (go own (t .0) (t .1)))
   where
-    go : (t : Bool) → every right (cond t (kindAt k .own) (kindAt k .row)) ≡ true
-    go true = both (every right (kindAt k .own)) (every right (kindAt k .row)) (table-right k) .0
-    go false = both (every right (kindAt k .own)) (every right (kindAt k .row)) (table-right k) .1
-
-listing-right : (ls : List Listing) → every right ls ≡ true → (i : ℕ) → IsLimit (getD ls i unlisted) (at (limitPatterns ls) i)
-unfolding every right limitPattern
-listing-right [] e i = refl
-listing-right (l ∷ ls) e zero = limit-by-test l (limitPattern l) (both (right l) (every right ls) e .0)
-listing-right (l ∷ ls) e (suc i) = listing-right ls (both (right l) (every right ls) e .1) i
-
-pub limits-right : (k row i : ℕ) → IsLimit (getD (listingsAt k row) i unlisted) (at (limitPatterns (listingsAt k row)) i)
-limits-right k row = listing-right (listingsAt k row) (listings-right k row)
+    go : (own : Bool) → right true (listingAt k i) ≡ true → right false (listingAt k i) ≡ true → right own (listingAt k i) ≡ true
+    go true t f = t
+    go false t f = f
 
 -- ── refusals 9 and 10 of a quantity with pattern p and limit m
 
-not-zero-by-limit : (l : Listing) (m p : ℕ) → IsLimit l m → (eqb m 0 && not (eqb p 0)) ≡ notZeroBytes l p
+not-zero-by-limit : (own : Bool) (l : Listing) (m p : ℕ) → IsLimit own l m → (eqb m 0 && not (eqb p 0)) ≡ notZeroBytes own l p
 unfolding notZeroBytes
-not-zero-by-limit unlisted m p h = rw (eq-eqb m 0 h)
-not-zero-by-limit (upTo n) m p h = rw (h .1)
+not-zero-by-limit own l m p h = rw (h .none)
 
-over-by-limit : (l : Listing) (m p : ℕ) → IsLimit l m → (not (eqb m 0) && not (leb p m)) ≡ overLimit l p
+over-by-limit : (own : Bool) (l : Listing) (m p : ℕ) → IsLimit own l m → (not (eqb m 0) && not (leb p m)) ≡ overLimit own l p
 unfolding overLimit
-over-by-limit unlisted m p h = rw (eq-eqb m 0 h)
-over-by-limit (upTo n) m p h = rw (h .1) (ap not (limit-as-pattern p m n (h .0)))
+over-by-limit own l m p h = rw (h .none) (go (listed own l) (h .most))
+  where
+    go : (t : Bool) → (t ≡ true → exactOf m ≡ limit l * one) → (not (not t) && not (leb p m)) ≡ (t && not (leb (exactOf p) (limit l * one)))
+    go true e = ap not (limit-as-pattern p m (limit l) (e refl))
+    go false e = refl
 
 -- ── of all six
 
@@ -81,15 +76,16 @@ abbrev found : List ℕ → List ℕ → ℕ → Faults
 found ms ps zero = record { invalid = false; stray = false; over = false }
 found ms ps (suc i) = addFaults (found ms ps i) (at ms i) (at ps i)
 
-pub faults-by-limits : (k row : ℕ) (ps : List ℕ) → found (limitPatterns (listingsAt k row)) ps 6 ≡ faultsOf k row (at ps)
+pub faults-by-limits : (k row : ℕ) (ps : List ℕ) → found (limitPatterns (eqb row 0) (kindAt k .quantities)) ps 6 ≡ faultsOf k row (at ps)
 unfolding addFaults faultsOf
 faults-by-limits k row ps =
-    let ms = limitPatterns (listingsAt k row) in
+    let own = eqb row 0 in
+    let ms = limitPatterns own (kindAt k .quantities) in
     rw (
-      six-same (λ i. eqb (at ms i) 0 && not (eqb (at ps i) 0)) (λ i. notZeroBytes (listingAt k row i) (at ps i))
-          (λ i. not-zero-by-limit (listingAt k row i) (at ms i) (at ps i) (limits-right k row i)),
-      six-same (λ i. not (eqb (at ms i) 0) && not (leb (at ps i) (at ms i))) (λ i. overLimit (listingAt k row i) (at ps i))
-          (λ i. over-by-limit (listingAt k row i) (at ms i) (at ps i) (limits-right k row i)),
+      six-same (λ i. eqb (at ms i) 0 && not (eqb (at ps i) 0)) (λ i. notZeroBytes own (listingAt k i) (at ps i))
+          (λ i. not-zero-by-limit own (listingAt k i) (at ms i) (at ps i) (limits-right own k i)),
+      six-same (λ i. not (eqb (at ms i) 0) && not (leb (at ps i) (at ms i))) (λ i. overLimit own (listingAt k i) (at ps i))
+          (λ i. over-by-limit own (listingAt k i) (at ms i) (at ps i) (limits-right own k i)),
     )
 
 -- ── refusals 8 to 11 by the faults of six

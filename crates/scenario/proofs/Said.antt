@@ -1,38 +1,32 @@
 -- What decode's answer says in the paper's numbers: `of-decoded`, and beside the enum `decoded-said`. An accepted case carries what its bytes say, no more and no less: `accepted-says`.
 use mathlib.Core.Path.{_≡_, refl, ap, _∙_}
 use mathlib.Core.Bool.{Bool, true, false}
-use mathlib.Core.List.{List, [], _∷_, map}
-use Prim.Native.Nat.{ℕ, zero, suc}
-use native.Mathlib.Omega.{arith}
+use mathlib.Core.List.{List}
+use Prim.Native.Nat.{ℕ}
 use lib.Dec.{eqb}
-use lib.Ieee.{binary64, ofBits}
 use borrow.Author.Tests.{eqb-true}
-use Rattle.scenario.specs.Case.{kindOf, patternAt, refusalOf}
+use Rattle.scenario.specs.Case.{kinds, kindOf, patternAt, ofSix, quantityOf, refusalOf}
 use Rattle.scenario.specs.Decoding.{caseWith, caseOfPatterns, caseOf, headOf, decoded, kindIn, quantitiesIn, ofDecoded, said}
-use Rattle.scenario.specs.Ranges.{WithinRanges}
+use Rattle.scenario.specs.Ranges.{allowedBy}
 use Rattle.scenario.specs.declared.Decoded.{Decoded}
+use Rattle.scenario.proofs.KindTable.{each-kind, _then_}
 use Rattle.scenario.proofs.Ranges.{accepted-exactly}
 
-pub accepted-says : (b : List ℕ) → refusalOf b ≡ 0
-    → (kindIn (caseOf b) ≡ kindOf b) × (quantitiesIn (caseOf b) ≡ map (λ (i : ℕ). ofBits binary64 (patternAt b i)) (0 ∷ 1 ∷ 2 ∷ 3 ∷ 4 ∷ 5 ∷ []))
-unfolding caseOfPatterns caseWith
-accepted-says b none = go (kindOf b) refl
-  where
-    p : WithinRanges b
-    p = accepted-exactly b .0 none
-
-    go : (k : ℕ) → kindOf b ≡ k
-        → (kindIn (caseOfPatterns k (patternAt b)) ≡ k)
-        × (quantitiesIn (caseOfPatterns k (patternAt b)) ≡ map (λ (i : ℕ). ofBits binary64 (patternAt b i)) (0 ∷ 1 ∷ 2 ∷ 3 ∷ 4 ∷ 5 ∷ []))
-    go zero e = let f = p .kind .0 in absurd (omega arith)
-    go (suc zero) e = (refl, refl)
-    go (suc (suc zero)) e = (refl, rw (p .quantities .unknown e .1))
-    go (suc (suc (suc zero))) e = (refl, rw (p .quantities .application e .1, p .quantities .application e .2))
-    go (suc (suc (suc (suc zero)))) e = (refl, rw (p .quantities .sanitary e .3, p .quantities .sanitary e .4, p .quantities .sanitary e .5))
-    go (suc (suc (suc (suc (suc zero))))) e = (refl, rw (p .quantities .formulation e .5))
-    go (suc (suc (suc (suc (suc (suc zero)))))) e = (refl, rw (p .quantities .hygiene e .2))
-    go (suc (suc (suc (suc (suc (suc (suc zero))))))) e = (refl, rw (p .quantities .toilets e .5))
-    go (suc (suc (suc (suc (suc (suc (suc (suc k)))))))) e = let f = p .kind .1 in absurd (omega arith)
+pub accepted-says : (b : List ℕ) → refusalOf b ≡ 0 → (kindIn (caseOf b) ≡ kindOf b) × (quantitiesIn (caseOf b) ≡ ofSix (λ i. quantityOf (patternAt b i)))
+unfolding caseOfPatterns caseWith kinds
+accepted-says b none =
+    let w = accepted-exactly b .0 none in
+    each-kind
+    (λ k. allowedBy k b .quantities → (kindIn (caseOfPatterns k (patternAt b)) ≡ k) × (quantitiesIn (caseOfPatterns k (patternAt b)) ≡ ofSix (λ i. quantityOf (patternAt b i))))
+    (tt
+    then (λ q. (refl, refl))
+    then (λ q. (refl, rw (q .1)))
+    then (λ q. (refl, rw (q .1, q .2)))
+    then (λ q. (refl, rw (q .3, q .4, q .5)))
+    then (λ q. (refl, rw (q .5)))
+    then (λ q. (refl, rw (q .2)))
+    then (λ q. (refl, rw (q .5))))
+    (kindOf b) (w .kind) (w .quantities)
 
 pub of-decoded : (b : List ℕ) → ofDecoded (decoded b) ≡ said b
 unfolding decoded said headOf

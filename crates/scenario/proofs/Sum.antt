@@ -7,7 +7,7 @@ use mathlib.Core.List.{[], _∷_, map}
 use Prim.Native.Nat.{_*_, _^_}
 use lib.Ieee.{binary64, ofBits, add, le}
 use Rattle.binary64.specs.Quantity.{whole}
-use Rattle.scenario.specs.Case.{sumWithin}
+use Rattle.scenario.specs.Case.{sumFrom, sumWithin}
 use Rattle.scenario.specs.Builder.{three-quarters, quarter, two^-52, two^-53, two^-54}
 
 -- over 2 ^ 1074
@@ -15,14 +15,14 @@ pub points : map whole (three-quarters ∷ quarter ∷ two^-52 ∷ two^-53 ∷ t
 unfolding whole
 points = refl
 
-pub sum-over : sumWithin (ofBits binary64 three-quarters) (ofBits binary64 quarter) (ofBits binary64 two^-52) ≡ false
-unfolding sumWithin add le ofBits
+pub sum-over : sumWithin (map (ofBits binary64) (three-quarters ∷ quarter ∷ two^-52 ∷ [])) ≡ false
+unfolding sumWithin sumFrom add le ofBits
 sum-over = refl
 
-pub sum-tie : sumWithin (ofBits binary64 three-quarters) (ofBits binary64 quarter) (ofBits binary64 two^-53) ≡ true
-unfolding sumWithin add le ofBits
+pub sum-tie : sumWithin (map (ofBits binary64) (three-quarters ∷ quarter ∷ two^-53 ∷ [])) ≡ true
+unfolding sumWithin sumFrom add le ofBits
 sum-tie = refl
 
-pub sum-under : sumWithin (ofBits binary64 three-quarters) (ofBits binary64 quarter) (ofBits binary64 two^-54) ≡ true
-unfolding sumWithin add le ofBits
+pub sum-under : sumWithin (map (ofBits binary64) (three-quarters ∷ quarter ∷ two^-54 ∷ [])) ≡ true
+unfolding sumWithin sumFrom add le ofBits
 sum-under = refl

@@ -1,7 +1,7 @@
 -- A case of 64 bytes: its fields, what each kind allows, and refusals 1 to 11.
 -- Paper 01, 'A case, 64 bytes', 'City rows', 'Equations' (rows, T, quantities, limits) and 'From the input, in this order'.
-use mathlib.Core.Bool.{Bool, false, not, _&&_, _||_, cond}
-use mathlib.Core.List.{List, [], _∷_, _++_}
+use mathlib.Core.Bool.{Bool, true, false, not, _&&_, _||_, cond}
+use mathlib.Core.List.{List, [], _∷_, _++_, map}
 use Prim.Native.Nat.{ℕ, _+_, _*_}
 use lib.Dec.{leb, eqb}
 use lib.Ieee.{Float, binary64, ofBits, add, le}
@@ -36,6 +36,24 @@ dossierOf b = numberAt b 8 8
 abbrev pub patternAt : List ℕ → ℕ → ℕ
 patternAt b i = numberAt b (16 + 8 * i) 8
 
+-- of a to f
+abbrev pub ofSix : {A : Type 0} → (ℕ → A) → List A
+ofSix x = x 0 ∷ x 1 ∷ x 2 ∷ x 3 ∷ x 4 ∷ x 5 ∷ []
+
+-- ── what a quantity is, of its pattern
+
+-- as a binary64
+abbrev pub quantityOf : ℕ → Float
+quantityOf pattern = ofBits binary64 pattern
+
+-- its exact value, over 2 ^ 1074
+abbrev pub exactOf : ℕ → ℕ
+exactOf pattern = whole pattern
+
+-- the exact value of quantity i of a case: limits are on it, and the equations take it (`quantities-exact`, in crate equations)
+abbrev pub exactAt : List ℕ → ℕ → ℕ
+exactAt b i = exactOf (patternAt b i)
+
 -- ── what a kind allows
 
 -- both ends are allowed
@@ -50,65 +68,50 @@ m to n = record { from = m; to = n }
 abbrev pub within : Range → ℕ → Bool
 within r n = leb (r .from) n && leb n (r .to)
 
--- A quantity is unlisted, or listed up to a limit, which it may reach.
+-- A quantity is listed with no row, with each, or with row 0 alone, up to a limit, which it may reach.
 pub data Listing : Type 0 where
   unlisted : Listing
   upTo : ℕ → Listing
+  ownUpTo : ℕ → Listing
 
 abbrev pub fraction : Listing
 fraction = upTo 1
 
--- the rows, the users, T and the quantities a to f with row 0, T and the quantities a to f with the rows of the paper
+-- the rows, the users, T with row 0 and with the rows of the paper, the quantities a to f, and which of them are parts of one whole,
+-- in the order in which they are added: a is 0, f is 5
 pub record Kind : Type 0 where
   pub rows : Range
   pub users : Range
   pub ownCount : Range
-  pub own : List Listing
   pub rowCount : Range
-  pub row : List Listing
+  pub quantities : List Listing
+  pub summed : List ℕ
 
-abbrev pub kind : Range → Range → Range → List Listing → Range → List Listing → Kind
-kind r u t q t′ q′ = record { rows = r; users = u; ownCount = t; own = q; rowCount = t′; row = q′ }
+abbrev pub kind : Range → Range → Range → Range → List Listing → List ℕ → Kind
+kind r u t t′ q s = record { rows = r; users = u; ownCount = t; rowCount = t′; quantities = q; summed = s }
 
-abbrev pub noneListed : List Listing
-noneListed = unlisted ∷ unlisted ∷ unlisted ∷ unlisted ∷ unlisted ∷ unlisted ∷ []
-
--- The seven kinds. Kind 5 has no row but 0: what stands for its other rows is never looked at.
+-- The seven kinds. Kind 5 has no row but 0: T with its other rows is never looked at.
 unfoldable pub kinds : List Kind
 kinds =
     -- 1. city, leaching measured
-    kind (0 to 7) (0 to 0)
-    (31 to 36500) (upTo 100 ∷ upTo 100 ∷ fraction ∷ upTo 1000 ∷ unlisted ∷ unlisted ∷ [])
-    (0 to 0) (upTo 100 ∷ upTo 100 ∷ fraction ∷ unlisted ∷ unlisted ∷ unlisted ∷ [])
+    kind (0 to 7) (0 to 0) (31 to 36500) (0 to 0) (upTo 100 ∷ upTo 100 ∷ fraction ∷ ownUpTo 1000 ∷ unlisted ∷ unlisted ∷ []) []
     -- 2. city, leaching unknown
-    ∷ kind (0 to 7) (0 to 0)
-    (31 to 36500) (fraction ∷ unlisted ∷ fraction ∷ upTo 1000 ∷ upTo 100 ∷ upTo 5000 ∷ [])
-    (0 to 0) (fraction ∷ unlisted ∷ fraction ∷ unlisted ∷ unlisted ∷ unlisted ∷ [])
+    ∷ kind (0 to 7) (0 to 0) (31 to 36500) (0 to 0) (fraction ∷ unlisted ∷ fraction ∷ ownUpTo 1000 ∷ ownUpTo 100 ∷ ownUpTo 5000 ∷ []) []
     -- 3. city, application
-    ∷ kind (0 to 7) (1 to 2)
-    (1 to 100) (fraction ∷ unlisted ∷ unlisted ∷ upTo 1000 ∷ upTo 100 ∷ upTo 5000 ∷ [])
-    (0 to 0) (fraction ∷ unlisted ∷ unlisted ∷ unlisted ∷ unlisted ∷ unlisted ∷ [])
+    ∷ kind (0 to 7) (1 to 2) (1 to 100) (0 to 0) (fraction ∷ unlisted ∷ unlisted ∷ ownUpTo 1000 ∷ ownUpTo 100 ∷ ownUpTo 5000 ∷ []) []
     -- 4. sanitary, tonnage
-    ∷ kind (0 to 1) (0 to 0)
-    (1 to 366) (upTo 1000000 ∷ fraction ∷ fraction ∷ unlisted ∷ unlisted ∷ unlisted ∷ [])
-    (0 to 0) (upTo 1000000 ∷ fraction ∷ fraction ∷ unlisted ∷ unlisted ∷ unlisted ∷ [])
+    ∷ kind (0 to 1) (0 to 0) (1 to 366) (0 to 0) (upTo 1000000 ∷ fraction ∷ fraction ∷ unlisted ∷ unlisted ∷ unlisted ∷ []) []
     -- 5. formulation
-    ∷ kind (0 to 0) (0 to 0)
-    (1 to 366) (upTo 1000000 ∷ fraction ∷ fraction ∷ fraction ∷ fraction ∷ unlisted ∷ [])
-    (0 to 0) noneListed
+    ∷ kind (0 to 0) (0 to 0) (1 to 366) (0 to 0) (upTo 1000000 ∷ fraction ∷ fraction ∷ fraction ∷ fraction ∷ unlisted ∷ []) (2 ∷ 3 ∷ 4 ∷ [])
     -- 6. hygiene, consumption
-    ∷ kind (0 to 5) (0 to 0)
-    (0 to 0) (fraction ∷ fraction ∷ unlisted ∷ upTo 10000 ∷ upTo 100 ∷ fraction ∷ [])
-    (0 to 0) (fraction ∷ fraction ∷ unlisted ∷ unlisted ∷ unlisted ∷ unlisted ∷ [])
+    ∷ kind (0 to 5) (0 to 0) (0 to 0) (0 to 0) (fraction ∷ fraction ∷ unlisted ∷ ownUpTo 10000 ∷ ownUpTo 100 ∷ ownUpTo 1 ∷ []) []
     -- 7. chemical toilets
-    ∷ kind (0 to 1) (0 to 0)
-    (1 to 100) (fraction ∷ fraction ∷ upTo 5 ∷ fraction ∷ fraction ∷ unlisted ∷ [])
-    (0 to 0) (fraction ∷ fraction ∷ upTo 5 ∷ fraction ∷ fraction ∷ unlisted ∷ [])
+    ∷ kind (0 to 1) (0 to 0) (1 to 100) (0 to 0) (fraction ∷ fraction ∷ upTo 5 ∷ fraction ∷ fraction ∷ unlisted ∷ []) []
     ∷ []
 
 -- a kind that is not there allows nothing
 abbrev pub noKind : Kind
-noKind = kind (1 to 0) (1 to 0) (1 to 0) noneListed (1 to 0) noneListed
+noKind = kind (1 to 0) (1 to 0) (1 to 0) (1 to 0) (unlisted ∷ unlisted ∷ unlisted ∷ unlisted ∷ unlisted ∷ unlisted ∷ []) []
 
 -- kinds are numbered from 1
 unfoldable pub kindAt : ℕ → Kind
@@ -118,12 +121,20 @@ kindAt k = getD (noKind ∷ kinds) k noKind
 abbrev pub countsAt : ℕ → ℕ → Range
 countsAt k row = cond (eqb row 0) (kindAt k .ownCount) (kindAt k .rowCount)
 
-unfoldable pub listingsAt : ℕ → ℕ → List Listing
-listingsAt k row = cond (eqb row 0) (kindAt k .own) (kindAt k .row)
-
 -- of quantity i
-abbrev pub listingAt : ℕ → ℕ → ℕ → Listing
-listingAt k row i = getD (listingsAt k row) i unlisted
+abbrev pub listingAt : ℕ → ℕ → Listing
+listingAt k i = getD (kindAt k .quantities) i unlisted
+
+-- whether it is listed with row 0, which is the case's own, or with the paper's rows
+abbrev pub listed : Bool → Listing → Bool
+listed own unlisted = false
+listed own (upTo n) = true
+listed own (ownUpTo n) = own
+
+abbrev pub limit : Listing → ℕ
+limit unlisted = 0
+limit (upTo n) = n
+limit (ownUpTo n) = n
 
 -- ── what is not allowed: a test for each refusal, in their order
 
@@ -163,28 +174,36 @@ abbrev pub anyNotNumber : (ℕ → ℕ) → Bool
 anyNotNumber p = anyOfSix (λ i. notNumber (p i))
 
 -- unlisted, and not eight zero bytes
-unfoldable pub notZeroBytes : Listing → ℕ → Bool
-notZeroBytes unlisted pattern = not (eqb pattern 0)
-notZeroBytes (upTo n) pattern = false
+unfoldable pub notZeroBytes : Bool → Listing → ℕ → Bool
+notZeroBytes own l pattern = not (listed own l) && not (eqb pattern 0)
 
 abbrev pub anyNotZeroBytes : ℕ → ℕ → (ℕ → ℕ) → Bool
-anyNotZeroBytes k row p = anyOfSix (λ i. notZeroBytes (listingAt k row i) (p i))
+anyNotZeroBytes k row p = anyOfSix (λ i. notZeroBytes (eqb row 0) (listingAt k i) (p i))
 
 -- listed, and the exact value over the limit
-unfoldable pub overLimit : Listing → ℕ → Bool
-overLimit unlisted pattern = false
-overLimit (upTo n) pattern = not (leb (whole pattern) (n * one))
+unfoldable pub overLimit : Bool → Listing → ℕ → Bool
+overLimit own l pattern = listed own l && not (leb (exactOf pattern) (limit l * one))
 
 abbrev pub anyOverLimit : ℕ → ℕ → (ℕ → ℕ) → Bool
-anyOverLimit k row p = anyOfSix (λ i. overLimit (listingAt k row i) (p i))
+anyOverLimit k row p = anyOfSix (λ i. overLimit (eqb row 0) (listingAt k i) (p i))
 
--- "The sum (c + d) + e, both additions rounded in binary64, is at most 1"
-unfoldable pub sumWithin : Float → Float → Float → Bool
-sumWithin c d e = le (add binary64 (add binary64 c d) e) (ofBits binary64 0x3ff0000000000000)
+-- added from the left, each addition rounded in binary64
+unfoldable pub sumFrom : Float → List Float → Float
+sumFrom s [] = s
+sumFrom s (x ∷ xs) = sumFrom (add binary64 s x) xs
 
--- of kind 5
+-- the sum is at most 1; nothing is summed where no quantities are
+unfoldable pub sumWithin : List Float → Bool
+unfolding sumFrom
+sumWithin [] = true
+sumWithin (x ∷ xs) = le (sumFrom x xs) (ofBits binary64 0x3ff0000000000000)
+
+-- what kind k sums of the six. Kind 5: "The sum (c + d) + e, both additions rounded in binary64, is at most 1"
+unfoldable pub summedOf : ℕ → List Float → List Float
+summedOf k xs = map (λ (i : ℕ). getD xs i (quantityOf 0)) (kindAt k .summed)
+
 unfoldable pub sumOver : ℕ → (ℕ → ℕ) → Bool
-sumOver k p = eqb k 5 && not (sumWithin (ofBits binary64 (p 2)) (ofBits binary64 (p 3)) (ofBits binary64 (p 4)))
+sumOver k p = not (sumWithin (summedOf k (ofSix (λ i. quantityOf (p i)))))
 
 -- ── refusals 1 to 11, in the paper's order
 

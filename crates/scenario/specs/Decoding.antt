@@ -1,11 +1,11 @@
 -- What a case of 64 bytes says: its kind with that kind's quantities, its row, route, user, T and dossier number.
 -- Paper 01, 'A form for each place': "A case is an enum over kinds; each case carries that kind's f64 quantities".
 use mathlib.Core.Bool.{cond}
-use mathlib.Core.List.{List, [], _∷_, map}
+use mathlib.Core.List.{List, [], _∷_}
 use Prim.Native.Nat.{ℕ}
 use lib.Dec.{eqb}
-use lib.Ieee.{Float, binary64, ofBits}
-use Rattle.scenario.specs.Case.{kindOf, rowOf, routeOf, userOf, countOf, dossierOf, patternAt, refusalOf}
+use lib.Ieee.{Float}
+use Rattle.scenario.specs.Case.{kindOf, rowOf, routeOf, userOf, countOf, dossierOf, patternAt, ofSix, quantityOf, refusalOf}
 use Rattle.scenario.specs.declared.Site.{Site}
 use Rattle.scenario.specs.declared.Case.{Case}
 use Rattle.scenario.specs.declared.Case.the-variants.{Measured, Unknown, Application, Sanitary, Formulation, Hygiene, Toilets}
@@ -30,8 +30,7 @@ caseWith k a b c d e f =
 
 -- of the patterns p of a to f
 unfoldable pub caseOfPatterns : ℕ → (ℕ → ℕ) → Case
-caseOfPatterns k p =
-    caseWith k (ofBits binary64 (p 0)) (ofBits binary64 (p 1)) (ofBits binary64 (p 2)) (ofBits binary64 (p 3)) (ofBits binary64 (p 4)) (ofBits binary64 (p 5))
+caseOfPatterns k p = caseWith k (quantityOf (p 0)) (quantityOf (p 1)) (quantityOf (p 2)) (quantityOf (p 3)) (quantityOf (p 4)) (quantityOf (p 5))
 
 abbrev pub caseOf : List ℕ → Case
 caseOf b = caseOfPatterns (kindOf b) (patternAt b)
@@ -56,7 +55,7 @@ kindIn (Toilets a b c d e) = 7
 
 -- what stands for a quantity that the kind does not carry
 abbrev pub nought : Float
-nought = ofBits binary64 0
+nought = quantityOf 0
 
 -- a to f
 abbrev pub quantitiesIn : Case → List Float
@@ -83,5 +82,5 @@ unfoldable pub said : List ℕ → Said
 said b = record {
   refusal = refusalOf b;
   fields = cond (eqb (refusalOf b) 0) (kindOf b ∷ rowOf b ∷ routeOf b ∷ userOf b ∷ countOf b ∷ dossierOf b ∷ []) [];
-  quantities = cond (eqb (refusalOf b) 0) (map (λ (i : ℕ). ofBits binary64 (patternAt b i)) (0 ∷ 1 ∷ 2 ∷ 3 ∷ 4 ∷ 5 ∷ [])) [];
+  quantities = cond (eqb (refusalOf b) 0) (ofSix (λ i. quantityOf (patternAt b i))) [];
 }

@@ -1,8 +1,8 @@
--- The edges that paper 01 prints, the ends of what each kind allows, and each refusal with its number, as whole cases with their refusals, 0 for none.
+-- The edges that paper 01 prints, and each refusal with its number, as whole cases with their refusals, 0 for none.
 -- Paper 01, 'Pencil cases': "Edges: life 30 is 6, 31 passes; row 2 route 2 is 4, row 3 route 2 passes", and P8, P9.
 use mathlib.Core.List.{List, [], _∷_}
 use Prim.Native.Nat.{ℕ, _+_}
-use Rattle.scenario.specs.Builder.{caseBytes, million, ten-thousand, five-thousand, thousand, hundred, sixteen, five, unit, three-quarters, half, quarter, eighth, two^-52, two^-53, two^-54}
+use Rattle.scenario.specs.Builder.{caseBytes, million, sixteen, unit, three-quarters, half, quarter, eighth, two^-52, two^-53, two^-54}
 
 pub record Edge : Type 0 where
   pub case : List ℕ
@@ -36,55 +36,9 @@ edges =
     ∷ (withFractions three-quarters two^-54 gives 0)
     ∷ []
 
--- the highest dossier number; the pattern of the least quantity above 0
-abbrev pub highest : ℕ
-highest = 18446744073709551615
-
+-- the pattern of the least quantity above 0
 abbrev pub least : ℕ
 least = 1
-
--- Each listed quantity at its limit, which it may reach, or at an end below, with T and the dossier number at an end of their own.
--- What is allowed besides, and that no more is, stands in Ranges.
-abbrev pub ends : List Edge
-ends =
-    -- row 0, with the highest T and dossier number; the fractions of kind 5 are at most 1 together
-    (caseBytes 1 0 1 0 36500 highest hundred hundred unit thousand 0 0 gives 0)
-    ∷ (caseBytes 2 0 1 0 36500 highest unit 0 unit thousand hundred five-thousand gives 0)
-    ∷ (caseBytes 3 0 1 2 100 highest unit 0 0 thousand hundred five-thousand gives 0)
-    ∷ (caseBytes 4 0 1 0 366 highest million unit unit 0 0 0 gives 0)
-    ∷ (caseBytes 5 0 1 0 366 highest million unit unit 0 0 0 gives 0)
-    ∷ (caseBytes 6 0 1 0 0 highest unit unit 0 ten-thousand hundred unit gives 0)
-    ∷ (caseBytes 7 0 1 0 100 highest unit unit five unit unit 0 gives 0)
-    -- with the lowest
-    ∷ (caseBytes 1 0 2 0 31 1 hundred hundred unit thousand 0 0 gives 0)
-    ∷ (caseBytes 2 0 2 0 31 1 unit 0 unit thousand hundred five-thousand gives 0)
-    ∷ (caseBytes 3 0 2 1 1 1 unit 0 0 thousand hundred five-thousand gives 0)
-    ∷ (caseBytes 4 0 1 0 1 1 million unit unit 0 0 0 gives 0)
-    ∷ (caseBytes 5 0 1 0 1 1 million unit 0 unit 0 0 gives 0)
-    ∷ (caseBytes 5 0 1 0 1 1 million unit 0 0 unit 0 gives 0)
-    ∷ (caseBytes 7 0 1 0 1 1 unit unit five unit unit 0 gives 0)
-    -- the last of the paper's rows
-    ∷ (caseBytes 1 7 2 0 0 7 hundred hundred unit 0 0 0 gives 0)
-    ∷ (caseBytes 2 7 2 0 0 7 unit 0 unit 0 0 0 gives 0)
-    ∷ (caseBytes 3 7 2 2 0 7 unit 0 0 0 0 0 gives 0)
-    ∷ (caseBytes 4 1 1 0 0 7 million unit unit 0 0 0 gives 0)
-    ∷ (caseBytes 6 5 1 0 0 7 unit unit 0 0 0 0 gives 0)
-    ∷ (caseBytes 7 1 1 0 0 7 unit unit five unit unit 0 gives 0)
-    -- the first of them, with the least quantities above 0
-    ∷ (caseBytes 1 1 1 0 0 7 least least least 0 0 0 gives 0)
-    ∷ (caseBytes 2 1 1 0 0 7 least 0 least 0 0 0 gives 0)
-    ∷ (caseBytes 3 1 1 1 0 7 least 0 0 0 0 0 gives 0)
-    ∷ (caseBytes 4 1 1 0 0 7 least least least 0 0 0 gives 0)
-    ∷ (caseBytes 6 1 1 0 0 7 least least 0 0 0 0 gives 0)
-    ∷ (caseBytes 7 1 1 0 0 7 least least least least least 0 gives 0)
-    -- the last that is not led to the rain sewer, and the first that is, with nothing of the substance
-    ∷ (caseBytes 1 2 1 0 0 7 0 0 0 0 0 0 gives 0)
-    ∷ (caseBytes 2 2 1 0 0 7 0 0 0 0 0 0 gives 0)
-    ∷ (caseBytes 3 2 1 1 0 7 0 0 0 0 0 0 gives 0)
-    ∷ (caseBytes 1 3 2 0 0 7 0 0 0 0 0 0 gives 0)
-    ∷ (caseBytes 2 3 2 0 0 7 0 0 0 0 0 0 gives 0)
-    ∷ (caseBytes 3 3 2 1 0 7 0 0 0 0 0 0 gives 0)
-    ∷ []
 
 -- the patterns of minus zero, of infinity, and of one that is no number
 abbrev pub minus-zero : ℕ

@@ -1,21 +1,21 @@
 -- What the functions of this crate hold in numbers: ranges by their ends, quantities and limits as patterns.
 use mathlib.Core.Path.{_≡_}
-use mathlib.Core.Bool.{false, not, _&&_, _||_}
+use mathlib.Core.Bool.{Bool, true, false, not, _&&_, _||_, cond}
 use mathlib.Core.List.{List, [], _∷_, map}
 use Prim.Native.Nat.{ℕ, _*_}
 use lib.Dec.{leb, eqb}
 use lib.Ieee.{binary64, ofInt, toBits}
 use lib.IntN.{pos}
 use lib.ListN.{getD}
-use Rattle.binary64.specs.Quantity.{whole, one}
-use Rattle.scenario.specs.Case.{Listing, unlisted, upTo, Kind, patternAt, notNumber, anyNotNumber, anyNotZeroBytes, anyOverLimit}
+use Rattle.binary64.specs.Quantity.{one}
+use Rattle.scenario.specs.Case.{Listing, listed, limit, Kind, patternAt, ofSix, exactOf, notNumber, anyNotNumber, anyNotZeroBytes, anyOverLimit}
 use Rattle.scenario.specs.declared.quantities.Faults.{Faults}
 
 -- ── quantities
 
 -- the patterns of a to f
 abbrev pub patternsOf : List ℕ → List ℕ
-patternsOf b = patternAt b 0 ∷ patternAt b 1 ∷ patternAt b 2 ∷ patternAt b 3 ∷ patternAt b 4 ∷ patternAt b 5 ∷ []
+patternsOf b = ofSix (patternAt b)
 
 -- the pattern at place i of such a list
 abbrev pub at : List ℕ → ℕ → ℕ
@@ -29,22 +29,21 @@ boundsOf k =
     k .rows .from ∷ k .rows .to ∷ k .users .from ∷ k .users .to
     ∷ k .ownCount .from ∷ k .ownCount .to ∷ k .rowCount .from ∷ k .rowCount .to ∷ []
 
--- 0 for an unlisted quantity, otherwise the pattern of the limit
-unfoldable pub limitPattern : Listing → ℕ
-limitPattern unlisted = 0
-limitPattern (upTo n) = toBits binary64 (ofInt binary64 (pos n))
+-- 0 for a quantity that is not listed, otherwise the pattern of the limit: with row 0, or with the paper's rows
+unfoldable pub limitPattern : Bool → Listing → ℕ
+limitPattern own l = cond (listed own l) (toBits binary64 (ofInt binary64 (pos (limit l)))) 0
 
--- the rule of a limit held so: 0 for an unlisted quantity alone, otherwise a pattern whose exact value is the limit
-abbrev pub IsLimit : Listing → ℕ → Type 0
-IsLimit unlisted m = m ≡ 0
-IsLimit (upTo n) m = (whole m ≡ n * one) × (eqb m 0 ≡ false)
+-- the rule of a limit held so: 0 for a quantity that is not listed alone, otherwise a pattern whose exact value is the limit
+pub record IsLimit (own : Bool) (l : Listing) (m : ℕ) : Type 0 where
+  pub none : eqb m 0 ≡ not (listed own l)
+  pub most : listed own l ≡ true → exactOf m ≡ limit l * one
 
-abbrev pub limitPatterns : List Listing → List ℕ
-limitPatterns = map limitPattern
+abbrev pub limitPatterns : Bool → List Listing → List ℕ
+limitPatterns own = map (limitPattern own)
 
 -- with row 0, with the paper's rows
 unfoldable pub limitsOf : Kind → List (List ℕ)
-limitsOf k = limitPatterns (k .own) ∷ limitPatterns (k .row) ∷ []
+limitsOf k = limitPatterns true (k .quantities) ∷ limitPatterns false (k .quantities) ∷ []
 
 -- ── refusals 8, 9 and 10
 

@@ -1,7 +1,8 @@
 // What each kind allows, as two tables: the bounds of its fields, and the limits of its quantities.
 ghost use mathlib.Core.Path.{_≡_};
 ghost use mathlib.Core.Bool.{not};
-ghost use Rattle.scenario.specs.Case.{within, _to_, kindAt, listingsAt, rowUnknown, userNotAllowed, countNotAllowed};
+ghost use lib.Dec.{eqb};
+ghost use Rattle.scenario.specs.Case.{within, _to_, kindAt, rowUnknown, userNotAllowed, countNotAllowed};
 ghost use Rattle.scenario.specs.Patterns.{boundsOf, limitPatterns, limitsOf};
 
 // From and to of the rows, of the users, of T with row 0 and of T with the paper's rows. What is no kind allows nothing.
@@ -87,7 +88,10 @@ fn limits_at(kind: u8) -> [[u64; 6]; 2]
             [TO_1000000, TO_1, TO_1, 0, 0, 0],
             [TO_1000000, TO_1, TO_1, 0, 0, 0],
         ],
-        5 => [[TO_1000000, TO_1, TO_1, TO_1, TO_1, 0], [0, 0, 0, 0, 0, 0]],
+        5 => [
+            [TO_1000000, TO_1, TO_1, TO_1, TO_1, 0],
+            [TO_1000000, TO_1, TO_1, TO_1, TO_1, 0],
+        ],
         6 => [
             [TO_1, TO_1, 0, TO_10000, TO_100, TO_1],
             [TO_1, TO_1, 0, 0, 0, 0],
@@ -101,7 +105,7 @@ fn limits_at(kind: u8) -> [[u64; 6]; 2]
 }
 
 pub fn limits_of(kind: u8, row: u8) -> [u64; 6]
-    ensures { λ r. ⌜ r ≡ limitPatterns (listingsAt kind row) ⌝ }
+    ensures { λ r. ⌜ r ≡ limitPatterns (eqb row 0) (kindAt kind .quantities) ⌝ }
 {
     let limits = limits_at(kind);
     if row == 0 { limits[0] } else { limits[1] }

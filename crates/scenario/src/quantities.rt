@@ -1,11 +1,11 @@
 // The six quantities of a case, as patterns, and refusals 8 to 11.
 ghost use mathlib.Core.Path.{_≡_};
-ghost use mathlib.Core.Bool.{false};
+ghost use mathlib.Core.Bool.{false, not};
 ghost use Prim.Native.Nat.{_<_};
-ghost use lib.Ieee.{binary64, ofBits};
+ghost use lib.Ieee.{binary64, ofBits, le};
 ghost use lib.ListN.{length};
 ghost use Rattle.scenario.specs.Refusal.{firstOf};
-ghost use Rattle.scenario.specs.Case.{anyNotNumber, sumWithin, sumOver, quantityRefusals};
+ghost use Rattle.scenario.specs.Case.{quantityOf, anyNotNumber, sumOver, quantityRefusals};
 ghost use Rattle.scenario.specs.Patterns.{patternsOf, at, addFaults, faultsOf};
 use crate::kinds::limits_of;
 use binary64::bytes::u64_at;
@@ -33,10 +33,13 @@ pub struct Faults {
     pub over: bool,
 }
 
-// What was found, with a quantity by its limit, 0 where it is unlisted, and its pattern. Patterns are in the order of their values.
-fn add_faults(found: Faults, limit: u64, pattern: u64) -> Faults
-    ensures { λ r. ⌜ r ≡ addFaults found limit pattern ⌝ }
+// What was found, with quantity i by its limit, 0 where it is unlisted, and its pattern. Patterns are in the order of their values.
+fn add_faults(found: Faults, limits: &[u64; 6], p: &[u64; 6], i: usize) -> Faults
+    requires { ⌜ i < 6 ⌝ }
+    ensures { λ r. ⌜ r ≡ addFaults found (at (now (limits .entry)) i) (at (now (p .entry)) i) ⌝ }
 {
+    let limit = limits[i];
+    let pattern = p[i];
     let unlisted = limit == 0;
     Faults {
         invalid: found.invalid | !is_unsigned_finite(pattern),
@@ -55,37 +58,37 @@ fn faults_of(kind: u8, row: u8, p: &[u64; 6]) -> Faults
         stray: false,
         over: false,
     };
-    let a = add_faults(none, limits[0], p[0]);
-    let b = add_faults(a, limits[1], p[1]);
-    let c = add_faults(b, limits[2], p[2]);
-    let d = add_faults(c, limits[3], p[3]);
-    let e = add_faults(d, limits[4], p[4]);
-    add_faults(e, limits[5], p[5])
+    let a = add_faults(none, &limits, p, 0);
+    let b = add_faults(a, &limits, p, 1);
+    let c = add_faults(b, &limits, p, 2);
+    let d = add_faults(c, &limits, p, 3);
+    let e = add_faults(d, &limits, p, 4);
+    add_faults(e, &limits, p, 5)
 }
 
 // A quantity of six that are all numbers.
 pub fn quantity_at(p: &[u64; 6], i: usize) -> f64
     requires { ⌜ (anyNotNumber (at (now p)) ≡ false) × (i < 6) ⌝ }
-    ensures { λ r. ⌜ r ≡ ofBits binary64 (at (now (p .entry)) i) ⌝ }
+    ensures { λ r. ⌜ r ≡ quantityOf (at (now (p .entry)) i) ⌝ }
 {
     quantity_of(p[i])
 }
 
-// Both additions are rounded.
-fn sum_within(c: f64, d: f64, e: f64) -> bool
-    ensures { λ r. ⌜ r ≡ sumWithin c d e ⌝ }
+fn over_one(sum: f64) -> bool
+    ensures { λ r. ⌜ r ≡ not (le sum (ofBits binary64 0x3ff0000000000000)) ⌝ }
 {
-    (c + d) + e <= 1.0
+    !(sum <= 1.0)
 }
 
+// From the left, each addition rounded.
 fn sum_over(kind: u8, p: &[u64; 6]) -> bool
     requires { ⌜ anyNotNumber (at (now p)) ≡ false ⌝ }
     ensures { λ r. ⌜ r ≡ sumOver kind (at (now (p .entry))) ⌝ }
 {
-    if kind != 5 {
-        return false;
+    match kind {
+        5 => over_one((quantity_at(p, 2) + quantity_at(p, 3)) + quantity_at(p, 4)),
+        _ => false,
     }
-    !sum_within(quantity_at(p, 2), quantity_at(p, 3), quantity_at(p, 4))
 }
 
 // The first of refusals 8 to 11 that holds, 0 for none.

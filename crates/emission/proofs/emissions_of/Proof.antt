@@ -1,13 +1,13 @@
 -- By the kind: what is asked of the case is what its equation asks, and what the equation returns is the case's.
 use mathlib.Core.Path.{_∙_}
 use borrow.Author.Needs.{needs}
-use Rattle.equations.specs.Equations.{toWater, toAir, toSoil}
+use Rattle.equations.specs.Equations.{emitted}
 use Rattle.equations.specs.Ranges.{InRange}
 use Rattle.emission.proofs.emissions_of.Statement.{statement}
 use Rattle.emission.proofs.emissions_of.Tie as tie
 
 pub emissions-of-spec : {M : Type 1} → statement M
-unfolding InRange toWater toAir toSoil
+unfolding InRange emitted
 emissions-of-spec =
     tie.close
     (tie.spec

@@ -7,7 +7,7 @@ use borrow.Author.Needs.{needs}
 use borrow.Author.Tests.{eq-eqb, ne-eqb}
 use native.Mathlib.Nat.{mul-le-mul-right}
 use Rattle.product.specs.Chain.{number, quantity}
-use Rattle.equations.specs.Equations.{application, toWater}
+use Rattle.equations.specs.Equations.{application, emitted}
 use Rattle.equations.specs.Ranges.{Within, InRange}
 use Rattle.equations.specs.Constants.{numbers}
 use Rattle.equations.proofs.Chains.{others}
@@ -34,7 +34,7 @@ unfolding InRange small
 product-up-requires c κs = (omega arith, omega arith, within-each _ limits refl (c .before .before .before .before .before .pre .2))
 
 returns : tie.Need-returns
-unfolding InRange toWater numbers others productOf
+unfolding InRange emitted numbers others productOf
 returns c =
     let f = c .before .before in
     let i = f .before .before in
@@ -68,7 +68,7 @@ product-up-requires-2 c κs =
     (omega arith, omega arith, within-each _ (1 ∷ []) refl (w .1 .1 .1))
 
 returns-2 : tie.Need-returns-2
-unfolding InRange Within toWater productOf
+unfolding InRange Within emitted productOf
 returns-2 c =
     let f = c .before in
     let k = f .before .before .before in

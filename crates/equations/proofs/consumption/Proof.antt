@@ -7,7 +7,7 @@ use borrow.Author.Needs.{needs}
 use borrow.Author.Tests.{eq-eqb, ne-eqb}
 use Rattle.equations.specs.Rows.{hygieneAt}
 use Rattle.product.specs.Chain.{quantity}
-use Rattle.equations.specs.Equations.{consumption, consumptionAt, toWater}
+use Rattle.equations.specs.Equations.{consumption, consumptionAt, emitted}
 use Rattle.equations.specs.Ranges.{Within, InRange}
 use Rattle.equations.specs.Constants.{numbers}
 use Rattle.equations.proofs.Chains.{others}
@@ -25,7 +25,7 @@ unfolding InRange small
 product-up-requires c κs = (omega arith, omega arith, within-each _ limits refl (c .before .before .before .pre .1))
 
 returns : tie.Need-returns
-unfolding InRange toWater numbers others productOf
+unfolding InRange emitted numbers others productOf
 returns c =
     let s = c .before .before .before .before in
     let a = s .args in
@@ -44,7 +44,7 @@ product-up-requires-2 c κs =
     (omega arith, omega arith, within-each _ (1 ∷ 1 ∷ []) refl (w .1 .1 .1))
 
 returns-2 : tie.Need-returns-2
-unfolding InRange Within toWater others productOf
+unfolding InRange Within emitted others productOf
 returns-2 c =
     let k = c .before .before .before in
     let s = k .before .before .before in

@@ -9,7 +9,7 @@ use lib.ListN.{getD}
 use Rattle.product.specs.Ratio.{_over_, _·_, roundedUp}
 use Rattle.product.specs.Chain.{quantity, chain}
 use Rattle.product.specs.Ranges.{UpTo}
-use Rattle.equations.specs.Equations.{formulation, toWater, toAir, toSoil, micrograms}
+use Rattle.equations.specs.Equations.{formulation, emitted, micrograms}
 use Rattle.equations.specs.Ranges.{Within, InRange}
 use Rattle.equations.specs.Constants.{numbers}
 use Rattle.equations.proofs.Chains.{others}
@@ -36,7 +36,7 @@ to a b x t r h ua ub ux e =
     figure (term (formulation a b x t)) _ _ _ 1000000 _ e refl h (omega arith) (omega arith) (chain-at-most (a ∷ b ∷ x ∷ []) limits (ua, (ub, (ux, tt)))) (omega arith)
 
 returns : tie.Need-returns
-unfolding InRange Within toWater toAir toSoil
+unfolding InRange Within emitted
 returns c =
     let s = c .before .before in
     let a = s .args in

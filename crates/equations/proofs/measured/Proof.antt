@@ -9,7 +9,7 @@ use lib.Pow.{pow-pos}
 use Rattle.equations.specs.Rows.{cityAt}
 use Rattle.product.specs.Ratio.{exactly}
 use Rattle.product.specs.Chain.{Factor, quantity, chain}
-use Rattle.equations.specs.Equations.{measured, measuredAt, toWater}
+use Rattle.equations.specs.Equations.{measured, measuredAt, emitted}
 use Rattle.equations.specs.Ranges.{Within, InRange}
 use Rattle.equations.specs.Constants.{numbers}
 use Rattle.product.proofs.Chains.{pull, quantities-positive}
@@ -29,7 +29,7 @@ sum-up-requires c κs =
     (omega arith, omega arith, up-to-largest _ 100 (w .0) (omega arith), up-to-largest _ 100 (w .1 .0) (omega arith), within-each _ (1 ∷ 1000 ∷ []) refl (w .1 .1))
 
 returns : tie.Need-returns
-unfolding InRange Within toWater numbers others chain productOf
+unfolding InRange Within emitted numbers others chain productOf
 returns c =
     let s = c .before .before .before .before in
     let a = s .args in
@@ -56,7 +56,7 @@ sum-up-requires-2 c κs =
     (omega arith, omega arith, up-to-largest _ 100 (w .0) (omega arith), up-to-largest _ 100 (w .1 .0) (omega arith), within-each _ (1 ∷ []) refl (w .1 .1 .0, tt))
 
 returns-2 : tie.Need-returns-2
-unfolding InRange Within toWater others chain productOf
+unfolding InRange Within emitted others chain productOf
 returns-2 c =
     let k = c .before .before .before in
     let s = k .before .before .before in

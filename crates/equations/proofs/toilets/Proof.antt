@@ -6,7 +6,7 @@ use native.Mathlib.Omega.{arith}
 use borrow.Author.Needs.{needs}
 use borrow.Author.Tests.{eq-eqb, ne-eqb}
 use Rattle.product.specs.Chain.{quantity, less}
-use Rattle.equations.specs.Equations.{toilets, toWater}
+use Rattle.equations.specs.Equations.{toilets, emitted}
 use Rattle.equations.specs.Ranges.{Within, InRange}
 use Rattle.equations.specs.Constants.{numbers}
 use Rattle.product.proofs.Chains.{pull}
@@ -30,7 +30,7 @@ remainder-up-requires c κs =
     (omega arith, omega arith, w .0, within-each _ limits refl (w .1))
 
 returns : tie.Need-returns
-unfolding InRange Within toWater numbers others productOf
+unfolding InRange Within emitted numbers others productOf
 returns c =
     let s = c .before .before .before .before .before in
     let a = s .args in
@@ -46,7 +46,7 @@ remainder-up-requires-2 c κs =
     (omega arith, omega arith, w .0, within-each _ limits refl (w .1))
 
 returns-2 : tie.Need-returns-2
-unfolding InRange Within toWater numbers others productOf
+unfolding InRange Within emitted numbers others productOf
 returns-2 c =
     let s = c .before .before .before .before in
     let a = s .args in

@@ -1,13 +1,12 @@
 -- By row: 0, or one of the paper's.
 use borrow.Author.Needs.{needs}
 use borrow.Author.Tests.{eq-eqb, ne-eqb}
-use Rattle.scenario.specs.Case.{listingsAt}
 use Rattle.scenario.specs.Patterns.{limitsOf}
 use Rattle.scenario.proofs.kinds.limits_of.Statement.{statement}
 use Rattle.scenario.proofs.kinds.limits_of.Tie as tie
 
 pub limits-of-spec : {M : Type 1} → statement M
-unfolding listingsAt limitsOf
+unfolding limitsOf
 limits-of-spec =
     tie.close
     (tie.spec

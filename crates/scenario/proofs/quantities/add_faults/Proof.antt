@@ -10,5 +10,9 @@ unfolding notNumber addFaults
 add-faults-spec =
     tie.close
     (tie.spec
+    (λ c. search needs)
+    (λ c. search needs)
+    (λ c. search needs)
+    (λ c. search needs)
     (λ c κs. search needs)
     (λ c. rw (c .before .before .before .is-unsigned-finite .ensures)))
