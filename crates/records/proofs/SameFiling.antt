@@ -11,10 +11,10 @@ use lib.ListN.{length, take, drop, length-drop}
 use lib.Seq.{getD-drop}
 use Rattle.binary64.specs.Bytes.{AreBytes, numberOf, numberAt}
 use Rattle.scenario.specs.Case.{kindOf, rowOf, routeOf, userOf, dossierOf}
-use Rattle.records.specs.Layout.{lineOf, recordSize, bytesAt}
+use Rattle.records.specs.Layout.{lineOf, firstLines, caseSize, bytesAt}
 use Rattle.records.specs.Lines.{sameBytes, sameFiling, held}
 use Rattle.records.proofs.RecordLaws.{part-take, part-drop}
-use Rattle.records.proofs.LinesFrom.{from, from-end, lineAt, from-cons}
+use Rattle.records.proofs.LinesFrom.{lineAt, lines-cons, lines-end}
 
 -- ── equal numbers are equal bytes
 
@@ -41,10 +41,10 @@ same-part b c i j k bb bc hb hc =
 
 -- ── held
 
-case-part : (b : List ℕ) (k i n : ℕ) → i + n ≤ 64 → bytesAt (lineAt b k .case) i n ≡ bytesAt b (recordSize * k + i) n
+case-part : (w k i n : ℕ) (b : List ℕ) → caseSize ≤ w → i + n ≤ caseSize → bytesAt (lineAt w b k .case) i n ≡ bytesAt b (w * k + i) n
 unfolding lineAt lineOf
-case-part b k i n h =
-    part-take (take recordSize (drop (recordSize * k) b)) i n 64 h ∙ part-take (drop (recordSize * k) b) i n recordSize (omega arith) ∙ part-drop b i n (recordSize * k)
+case-part w k i n b d h =
+    part-take (take w (drop (w * k) b)) i n caseSize h ∙ part-take (drop (w * k) b) i n w (omega arith) ∙ part-drop b i n (w * k)
 
 both-ways : (a b : Bool) → (a && b) ≡ (b && a)
 both-ways true true = refl
@@ -53,20 +53,21 @@ both-ways false true = refl
 both-ways false false = refl
 
 -- of two numbers read from record k and two of the case
-pub same-numbers : (b c : List ℕ) (k : ℕ) {x y h d : ℕ} → AreBytes b → AreBytes c → recordSize * k + recordSize ≤ length b → length c ≡ 64
-    → x ≡ numberAt b (recordSize * k) 4 → h ≡ numberAt c 0 4 → y ≡ numberAt b (recordSize * k + 8) 8 → d ≡ numberAt c 8 8
-    → (eqb y d && eqb x h) ≡ sameFiling (lineAt b k .case) c
+pub same-numbers : (w k : ℕ) (b c : List ℕ) {x y h d : ℕ} → AreBytes b → AreBytes c → caseSize ≤ w → w * k + w ≤ length b → length c ≡ caseSize
+    → x ≡ numberAt b (w * k) 4 → h ≡ numberAt c 0 4 → y ≡ numberAt b (w * k + 8) 8 → d ≡ numberAt c 8 8
+    → (eqb y d && eqb x h) ≡ sameFiling (lineAt w b k .case) c
 unfolding sameFiling
-same-numbers b c k {x = x₀} {y = y₀} {h = h₀} {d = d₀} bb bc hb hc x h y d =
-    both-ways (eqb y₀ d₀) (eqb x₀ h₀) ∙ rw (case-part b k 0 4 (omega arith), case-part b k 8 8 (omega arith), add-zero, x, h, y, d, same-part b c (recordSize * k) 0 4 bb bc (omega arith) (omega arith), same-part b c (recordSize * k + 8) 8 8 bb bc (omega arith) (omega arith))
+same-numbers w k b c {x = x₀} {y = y₀} {h = h₀} {d = d₀} bb bc hw hb hc x h y d =
+    both-ways (eqb y₀ d₀) (eqb x₀ h₀) ∙ rw (case-part w k 0 4 b hw (omega arith), case-part w k 8 8 b hw (omega arith), add-zero, x, h, y, d, same-part b c (w * k) 0 4 bb bc (omega arith) (omega arith), same-part b c (w * k + 8) 8 8 bb bc (omega arith) (omega arith))
 
-pub held-step : (b c : List ℕ) (n k : ℕ) → k < n → held (from b n k) c ≡ (sameFiling (lineAt b k .case) c || held (from b n (k + 1)) c)
-unfolding held
-held-step b c n k h = rw (from-cons b n k h)
+module _ (w n k : ℕ) (b c : List ℕ) where
+  pub held-step : k < n → held (drop k (firstLines w n b)) c ≡ (sameFiling (lineAt w b k .case) c || held (drop (k + 1) (firstLines w n b)) c)
+  unfolding held
+  held-step h = rw (lines-cons w n k b h)
 
-pub held-none : (b c : List ℕ) (n k : ℕ) → n ≤ k → held (from b n k) c ≡ false
-unfolding held
-held-none b c n k h = rw (from-end b n k h)
+  pub held-none : n ≤ k → held (drop k (firstLines w n b)) c ≡ false
+  unfolding held
+  held-none h = rw (lines-end w n k b h)
 
 -- ── the same filing in the fields of a case
 

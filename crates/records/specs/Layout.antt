@@ -54,6 +54,10 @@ usedLength width n = width * n + trailerSize
 abbrev pub mostRecords : ℕ
 mostRecords = 1000000
 
+-- where a record's figures end
+abbrev pub figuresEnd : ℕ
+figuresEnd = 96
+
 -- the size of a record, and the edition, the paper's term
 abbrev pub recordSize : ℕ
 recordSize = 96
