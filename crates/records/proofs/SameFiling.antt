@@ -7,13 +7,14 @@ use native.Mathlib.Nat.{add-zero}
 use native.Mathlib.Omega.{arith}
 use borrow.Author.Tests.{eq-eqb, ne-eqb, eqb-true, eqb-false}
 use lib.Dec.{eqb}
-use lib.ListN.{length, take, drop, length-drop}
+use lib.ListN.{length, getD, take, drop, length-drop}
 use lib.Seq.{getD-drop}
 use Rattle.binary64.specs.Bytes.{AreBytes, numberOf, numberAt}
 use Rattle.scenario.specs.Case.{kindOf, rowOf, routeOf, userOf, dossierOf}
 use Rattle.records.specs.Layout.{lineOf, firstLines, caseSize, bytesAt}
 use Rattle.records.specs.Lines.{sameBytes, sameFiling, held}
-use Rattle.records.proofs.RecordLaws.{part-take, part-drop}
+use Rattle.records.proofs.RecordLaws.{part-take, part-part}
+use Rattle.records.proofs.Writing.{first-four}
 use Rattle.records.proofs.LinesFrom.{lineAt, lines-cons, lines-end}
 
 -- ── equal numbers are equal bytes
@@ -43,8 +44,7 @@ same-part b c i j k bb bc hb hc =
 
 case-part : (w k i n : ℕ) (b : List ℕ) → caseSize ≤ w → i + n ≤ caseSize → bytesAt (lineAt w b k .case) i n ≡ bytesAt b (w * k + i) n
 unfolding lineAt lineOf
-case-part w k i n b d h =
-    part-take (take w (drop (w * k) b)) i n caseSize h ∙ part-take (drop (w * k) b) i n w (omega arith) ∙ part-drop b i n (w * k)
+case-part w k i n b d h = part-take (bytesAt b (w * k) w) i n caseSize h ∙ part-part b (w * k) w i n (omega arith)
 
 both-ways : (a b : Bool) → (a && b) ≡ (b && a)
 both-ways true true = refl
@@ -82,14 +82,6 @@ regroup true true true true t = refl
 pub same-filing-fields : (c d : List ℕ) → AreBytes c → AreBytes d → length c ≡ 64 → length d ≡ 64
     → sameFiling c d ≡ (eqb (kindOf c) (kindOf d) && (eqb (rowOf c) (rowOf d) && (eqb (routeOf c) (routeOf d) && (eqb (userOf c) (userOf d) && eqb (dossierOf c) (dossierOf d)))))
 unfolding sameFiling
-same-filing-fields [] d bc bd hc hd = absurd (omega arith)
-same-filing-fields (c₀ ∷ []) d bc bd hc hd = absurd (omega arith)
-same-filing-fields (c₀ ∷ c₁ ∷ []) d bc bd hc hd = absurd (omega arith)
-same-filing-fields (c₀ ∷ c₁ ∷ c₂ ∷ []) d bc bd hc hd = absurd (omega arith)
-same-filing-fields (c₀ ∷ c₁ ∷ c₂ ∷ c₃ ∷ c) [] bc bd hc hd = absurd (omega arith)
-same-filing-fields (c₀ ∷ c₁ ∷ c₂ ∷ c₃ ∷ c) (d₀ ∷ []) bc bd hc hd = absurd (omega arith)
-same-filing-fields (c₀ ∷ c₁ ∷ c₂ ∷ c₃ ∷ c) (d₀ ∷ d₁ ∷ []) bc bd hc hd = absurd (omega arith)
-same-filing-fields (c₀ ∷ c₁ ∷ c₂ ∷ c₃ ∷ c) (d₀ ∷ d₁ ∷ d₂ ∷ []) bc bd hc hd = absurd (omega arith)
-same-filing-fields (c₀ ∷ c₁ ∷ c₂ ∷ c₃ ∷ c) (d₀ ∷ d₁ ∷ d₂ ∷ d₃ ∷ d) bc bd hc hd =
-    rw (same-part (c₀ ∷ c₁ ∷ c₂ ∷ c₃ ∷ c) (d₀ ∷ d₁ ∷ d₂ ∷ d₃ ∷ d) 8 8 8 bc bd (omega arith) (omega arith))
-    (regroup (eqb c₀ d₀) (eqb c₁ d₁) (eqb c₂ d₂) (eqb c₃ d₃) (sameBytes (bytesAt (c₀ ∷ c₁ ∷ c₂ ∷ c₃ ∷ c) 8 8) (bytesAt (d₀ ∷ d₁ ∷ d₂ ∷ d₃ ∷ d) 8 8)))
+same-filing-fields c d bc bd hc hd =
+    rw (first-four c (omega arith), first-four d (omega arith), same-part c d 8 8 8 bc bd (omega arith) (omega arith))
+    (regroup (eqb (getD c 0 0) (getD d 0 0)) (eqb (getD c 1 0) (getD d 1 0)) (eqb (getD c 2 0) (getD d 2 0)) (eqb (getD c 3 0) (getD d 3 0)) (sameBytes (bytesAt c 8 8) (bytesAt d 8 8)))

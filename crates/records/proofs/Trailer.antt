@@ -3,17 +3,16 @@
 use mathlib.Core.Path.{_≡_, ap, _∙_}
 use mathlib.Core.Bool.{false}
 use mathlib.Core.List.{List, _++_, append-assoc}
-use Prim.Native.Nat.{ℕ, _+_, _-_, _*_, _^_, _≤_, _<_}
-use native.Mathlib.Nat.{mod-eq-of-lt}
+use Prim.Native.Nat.{ℕ, _+_, _-_, _*_, _≤_}
 use native.Mathlib.Omega.{arith}
 use borrow.Author.Tests.{le-ltb, eq-eqb, ltb-false, eqb-true, not-false}
 use lib.ListN.{length, length-append}
-use lib.Seq.{take-at, drop-at}
 use Rattle.binary64.specs.Bytes.{bytesOf, numberAt}
-use Rattle.binary64.proofs.Numbers.{length-bytesOf, numberOf-bytesOf}
+use Rattle.binary64.proofs.Numbers.{length-bytesOf}
 use Rattle.binary64.proofs.Bools.{neither}
 use Rattle.records.specs.Layout.{trailer, trailerSize, usedLength, mostRecords, recordSize, edition}
 use Rattle.records.specs.Buffer.{distanceAt, countAt, editionAt, broken}
+use Rattle.records.proofs.RecordLaws.{number-behind}
 
 pub record Sound (b : List ℕ) (u : ℕ) : Type 0 where
   pub inside : u ≤ length b
@@ -46,12 +45,6 @@ not-broken b u s =
     rw (le-ltb _ _ (s .inside), le-ltb _ _ (s .at-least), le-ltb _ _ (s .few), eq-eqb _ _ (s .length-is), eq-eqb _ _ (s .distance-is), eq-eqb _ _ (s .edition-is))
 
 -- ── a trailer read back
-
--- a number of k bytes, behind p and before q
-number-behind : (p q : List ℕ) (at k x : ℕ) → length p ≡ at → x < 256 ^ k → numberAt (p ++ (bytesOf k x ++ q)) at k ≡ x
-unfolding numberAt
-number-behind p q at k x h f =
-    rw (drop-at p (bytesOf k x ++ q) at h, take-at (bytesOf k x) q k (length-bytesOf k x), numberOf-bytesOf) (mod-eq-of-lt f)
 
 pub record TrailerRead (b : List ℕ) (u n : ℕ) : Type 0 where
   pub distance-is : distanceAt b u ≡ recordSize * n

@@ -7,10 +7,10 @@ use native.Mathlib.Nat.{mul-suc, le-of-suc-le-suc, not-suc-le-zero}
 use native.Mathlib.Omega.{arith}
 use borrow.Author.Tests.{lt-ltb, le-ltb}
 use lib.ListN.{getD, take, drop}
-use Rattle.binary64.specs.Bytes.{numberOf, numberAt}
+use Rattle.binary64.specs.Bytes.{numberAt}
 use Rattle.records.specs.Layout.{figuresIn, lineOf, firstLines, figuresEnd}
 use Rattle.records.specs.Lines.{figure, figureOf, outranks, worstOf}
-use Rattle.records.proofs.RecordLaws.{numberAt-drop, part-take, length-firstLines}
+use Rattle.records.proofs.RecordLaws.{numberAt-drop, number-part, length-firstLines}
 use Rattle.records.proofs.LinesFrom.{lineAt, line-at}
 use Rattle.records.proofs.Order.{Worst, worst-unique, worst-pass, worst-first, worst-over, worst-is, by-figures}
 
@@ -24,10 +24,6 @@ figuresIn-at (suc m) (suc c) b h =
     let e : 8 * suc c ≡ 8 + 8 * c = omega (arith, mul-suc 8 c) in
     figuresIn-at m c (drop 8 b) (le-of-suc-le-suc h) ∙ rw e (numberAt-drop b 8 (8 * c) 8)
 
-numberAt-take : (b : List ℕ) (at w m : ℕ) → at + w ≤ m → numberAt (take m b) at w ≡ numberAt b at w
-unfolding numberAt
-numberAt-take b at w m h = ap numberOf (part-take b at w m h)
-
 pub figure-at : (w n m k : ℕ) (b : List ℕ) → figuresEnd ≤ w → 1 ≤ m → m ≤ 4 → k < n → figureOf m (firstLines w n b) k ≡ numberAt b (w * k + (56 + 8 * m)) 8
 unfolding figure lineAt lineOf
 figure-at w n m k b d p q h =
@@ -36,7 +32,7 @@ figure-at w n m k b d p q h =
     ap (figure m) (line-at w n k b h)
     ∙ figuresIn-at 4 (m - 1) (drop 64 r) (omega arith)
     ∙ numberAt-drop r 64 (8 * (m - 1)) 8
-    ∙ rw e (numberAt-take (drop (w * k) b) (56 + 8 * m) 8 w (omega arith) ∙ numberAt-drop b (w * k) (56 + 8 * m) 8)
+    ∙ rw e (number-part b (w * k) w (56 + 8 * m) 8 (omega arith))
 
 -- ── the search, of any figures by number
 

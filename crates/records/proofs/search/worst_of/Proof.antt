@@ -1,7 +1,6 @@
 -- The invariant of both loops: best is the worst of the records before k, with the figure top. In the inner one x is the figure of record k.
 use mathlib.Core.Path.{_≡_, sym, _∙_}
-use mathlib.Core.List.{List}
-use Prim.Native.Nat.{ℕ, _+_, _*_, _-_, _≤_, _<_}
+use Prim.Native.Nat.{_+_, _*_, _-_, _≤_, _<_}
 use native.Mathlib.Nat.{mul-zero, zero-add}
 use native.Mathlib.Omega.{arith}
 use Rattle.records.specs.Layout.{firstLines}
