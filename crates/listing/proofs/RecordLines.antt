@@ -1,6 +1,6 @@
 -- Laws of the lines of records.
 --   length-line, line-written                              a line: its number, then its columns
---   recordAt, length-record                                record k as a part of the archive
+--   recordPart, length-record                              record k as a part of the archive
 --   linesFrom, lines-step, length-lines-step, no-lines     the lines from record k on
 --   take-bytes, line-at-most, lines-at-most                bounds on lengths, of records that are bytes
 -- What a line's columns are is in `Columns`.
@@ -15,7 +15,7 @@ use Rattle.binary64.specs.Bytes.{AreBytes, numberAt, splice}
 use Rattle.binary64.proofs.Numbers.{numberAt-small}
 use Rattle.binary64.proofs.Splice.{splice-join}
 use Rattle.records.specs.Layout.{Line, lineOf, firstLines}
-use Rattle.records.proofs.LinesFrom.{lineAt, lines-cons, lines-end}
+use Rattle.records.proofs.LinesFrom.{lines-cons, lines-end}
 use Rattle.listing.specs.Decimal.{decimal}
 use Rattle.listing.specs.Listing.{milligrams, columnsOf, columnsText, lineText, linesText}
 use Rattle.listing.proofs.DecimalText.{decimal-at-most}
@@ -36,25 +36,25 @@ line-written a at k l e f x q h =
 -- ── of n records, each as long as the width w, in a buffer b
 
 -- record k, as a part from a start to an end has it
-abbrev pub recordAt : ℕ → List ℕ → ℕ → List ℕ
-recordAt w b k = take (w * k + w - w * k) (drop (w * k) b)
+abbrev pub recordPart : ℕ → List ℕ → ℕ → List ℕ
+recordPart w b k = take (w * k + w - w * k) (drop (w * k) b)
 
 part-size : (w k : ℕ) → w * k + w - w * k ≡ w
 part-size w k = omega arith
 
-pub length-record : (w k : ℕ) (b : List ℕ) → w * k + w ≤ length b → length (recordAt w b k) ≡ w
+pub length-record : (w k : ℕ) (b : List ℕ) → w * k + w ≤ length b → length (recordPart w b k) ≡ w
 length-record w k b h = rw (part-size w k) (length-take-le w (drop (w * k) b) (rw length-drop (omega arith)))
 
 -- the lines from record k on
 abbrev pub linesFrom : ℕ → ℕ → List ℕ → ℕ → List ℕ
 linesFrom w n b k = linesText k (drop k (firstLines w n b))
 
-pub lines-step : (w n k : ℕ) (b : List ℕ) → k < n → linesFrom w n b k ≡ lineText k (lineOf (recordAt w b k)) ++ linesFrom w n b (k + 1)
-unfolding linesText lineAt
+pub lines-step : (w n k : ℕ) (b : List ℕ) → k < n → linesFrom w n b k ≡ lineText k (lineOf (recordPart w b k)) ++ linesFrom w n b (k + 1)
+unfolding linesText
 lines-step w n k b h = rw (part-size w k, lines-cons w n k b h)
 
-pub length-lines-step : (w n k : ℕ) (b : List ℕ) → k < n → length (linesFrom w n b k) ≡ length (lineText k (lineOf (recordAt w b k))) + length (linesFrom w n b (k + 1))
-length-lines-step w n k b h = ap length (lines-step w n k b h) ∙ length-append (lineText k (lineOf (recordAt w b k))) (linesFrom w n b (k + 1))
+pub length-lines-step : (w n k : ℕ) (b : List ℕ) → k < n → length (linesFrom w n b k) ≡ length (lineText k (lineOf (recordPart w b k))) + length (linesFrom w n b (k + 1))
+length-lines-step w n k b h = ap length (lines-step w n k b h) ∙ length-append (lineText k (lineOf (recordPart w b k))) (linesFrom w n b (k + 1))
 
 pub no-lines : (w n k : ℕ) (b : List ℕ) → n ≤ k → linesFrom w n b k ≡ []
 unfolding linesText

@@ -11,7 +11,7 @@ use lib.ListN.{length, getD, take, drop, length-append, length-drop}
 use lib.Seq.{take-at, drop-at, take-append-le, drop-append-le, drop-append-add, drop-drop, take-take, take-nil}
 use Rattle.binary64.specs.Bytes.{bytesOf, numberOf, numberAt}
 use Rattle.binary64.proofs.Numbers.{length-bytesOf, numberOf-bytesOf}
-use Rattle.records.specs.Layout.{Line, noLine, figureBytes, figuresIn, recordOf, records, lineOf, firstLines, caseSize, recordSize, bytesAt}
+use Rattle.records.specs.Layout.{Line, noLine, figureBytes, figuresIn, recordOf, records, lineOf, firstLines, caseSize, recordSize, bytesAt, recordAt}
 use Rattle.records.proofs.Writing.{length-figureBytes}
 
 -- ── places
@@ -117,7 +117,7 @@ firstLines-records [] r g = refl
 firstLines-records (l ∷ ls) r g =
     rw (append-assoc (recordOf l) (records ls) r, take-at (recordOf l) (records ls ++ r) recordSize (length-recordOf l (g .0 .sized)), drop-at (recordOf l) (records ls ++ r) recordSize (length-recordOf l (g .0 .sized)), line-record l (g .0), firstLines-records ls r (g .1))
 
-pub record-at : (ls : List Line) (r : List ℕ) (k : ℕ) → AllStorable ls → k < length ls → bytesAt (records ls ++ r) (recordSize * k) recordSize ≡ recordOf (getD ls k noLine)
+pub record-at : (ls : List Line) (r : List ℕ) (k : ℕ) → AllStorable ls → k < length ls → recordAt recordSize (records ls ++ r) k ≡ recordOf (getD ls k noLine)
 unfolding records
 record-at [] r k g h = absurd (not-suc-le-zero h)
 record-at (l ∷ ls) r zero g h =

@@ -11,11 +11,11 @@ use lib.ListN.{length, getD, take, drop, length-drop}
 use lib.Seq.{getD-drop}
 use Rattle.binary64.specs.Bytes.{AreBytes, numberOf, numberAt}
 use Rattle.scenario.specs.Case.{kindOf, rowOf, routeOf, userOf, dossierOf}
-use Rattle.records.specs.Layout.{lineOf, firstLines, caseSize, bytesAt}
+use Rattle.records.specs.Layout.{recordAt, lineOf, firstLines, caseSize, bytesAt}
 use Rattle.records.specs.Lines.{sameBytes, sameFiling, held}
 use Rattle.records.proofs.RecordLaws.{part-take, part-part}
 use Rattle.records.proofs.Writing.{first-four}
-use Rattle.records.proofs.LinesFrom.{lineAt, lines-cons, lines-end}
+use Rattle.records.proofs.LinesFrom.{lines-cons, lines-end}
 
 -- ── equal numbers are equal bytes
 
@@ -42,9 +42,9 @@ same-part b c i j k bb bc hb hc =
 
 -- ── held
 
-case-part : (w k i n : ℕ) (b : List ℕ) → caseSize ≤ w → i + n ≤ caseSize → bytesAt (lineAt w b k .case) i n ≡ bytesAt b (w * k + i) n
-unfolding lineAt lineOf
-case-part w k i n b d h = part-take (bytesAt b (w * k) w) i n caseSize h ∙ part-part b (w * k) w i n (omega arith)
+case-part : (w k i n : ℕ) (b : List ℕ) → caseSize ≤ w → i + n ≤ caseSize → bytesAt (lineOf (recordAt w b k) .case) i n ≡ bytesAt b (w * k + i) n
+unfolding lineOf
+case-part w k i n b d h = part-take (recordAt w b k) i n caseSize h ∙ part-part b (w * k) w i n (omega arith)
 
 both-ways : (a b : Bool) → (a && b) ≡ (b && a)
 both-ways true true = refl
@@ -55,13 +55,13 @@ both-ways false false = refl
 -- of two numbers read from record k and two of the case
 pub same-numbers : (w k : ℕ) (b c : List ℕ) {x y h d : ℕ} → AreBytes b → AreBytes c → caseSize ≤ w → w * k + w ≤ length b → length c ≡ caseSize
     → x ≡ numberAt b (w * k) 4 → h ≡ numberAt c 0 4 → y ≡ numberAt b (w * k + 8) 8 → d ≡ numberAt c 8 8
-    → (eqb y d && eqb x h) ≡ sameFiling (lineAt w b k .case) c
+    → (eqb y d && eqb x h) ≡ sameFiling (lineOf (recordAt w b k) .case) c
 unfolding sameFiling
 same-numbers w k b c {x = x₀} {y = y₀} {h = h₀} {d = d₀} bb bc hw hb hc x h y d =
     both-ways (eqb y₀ d₀) (eqb x₀ h₀) ∙ rw (case-part w k 0 4 b hw (omega arith), case-part w k 8 8 b hw (omega arith), add-zero, x, h, y, d, same-part b c (w * k) 0 4 bb bc (omega arith) (omega arith), same-part b c (w * k + 8) 8 8 bb bc (omega arith) (omega arith))
 
 module _ (w n k : ℕ) (b c : List ℕ) where
-  pub held-step : k < n → held (drop k (firstLines w n b)) c ≡ (sameFiling (lineAt w b k .case) c || held (drop (k + 1) (firstLines w n b)) c)
+  pub held-step : k < n → held (drop k (firstLines w n b)) c ≡ (sameFiling (lineOf (recordAt w b k) .case) c || held (drop (k + 1) (firstLines w n b)) c)
   unfolding held
   held-step h = rw (lines-cons w n k b h)
 

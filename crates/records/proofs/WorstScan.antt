@@ -6,12 +6,12 @@ use Prim.Native.Nat.{ℕ, zero, suc, _+_, _*_, _-_, _≤_, _<_}
 use native.Mathlib.Nat.{mul-suc, le-of-suc-le-suc, not-suc-le-zero}
 use native.Mathlib.Omega.{arith}
 use borrow.Author.Tests.{lt-ltb, le-ltb}
-use lib.ListN.{getD, take, drop}
+use lib.ListN.{getD, drop}
 use Rattle.binary64.specs.Bytes.{numberAt}
-use Rattle.records.specs.Layout.{figuresIn, lineOf, firstLines, figuresEnd}
+use Rattle.records.specs.Layout.{figuresIn, recordAt, lineOf, firstLines, figuresEnd}
 use Rattle.records.specs.Lines.{figure, figureOf, outranks, worstOf}
 use Rattle.records.proofs.RecordLaws.{numberAt-drop, number-part, length-firstLines}
-use Rattle.records.proofs.LinesFrom.{lineAt, line-at}
+use Rattle.records.proofs.LinesFrom.{line-at}
 use Rattle.records.proofs.Order.{Worst, worst-unique, worst-pass, worst-first, worst-over, worst-is, by-figures}
 
 -- ── the figure of a record
@@ -25,9 +25,9 @@ figuresIn-at (suc m) (suc c) b h =
     figuresIn-at m c (drop 8 b) (le-of-suc-le-suc h) ∙ rw e (numberAt-drop b 8 (8 * c) 8)
 
 pub figure-at : (w n m k : ℕ) (b : List ℕ) → figuresEnd ≤ w → 1 ≤ m → m ≤ 4 → k < n → figureOf m (firstLines w n b) k ≡ numberAt b (w * k + (56 + 8 * m)) 8
-unfolding figure lineAt lineOf
+unfolding figure lineOf
 figure-at w n m k b d p q h =
-    let r = take w (drop (w * k) b) in
+    let r = recordAt w b k in
     let e : 64 + 8 * (m - 1) ≡ 56 + 8 * m = omega arith in
     ap (figure m) (line-at w n k b h)
     ∙ figuresIn-at 4 (m - 1) (drop 64 r) (omega arith)

@@ -71,6 +71,10 @@ edition = 1
 abbrev pub bytesAt : List ℕ → ℕ → ℕ → List ℕ
 bytesAt b at n = take n (drop at b)
 
+-- record k of those in a buffer, each as long as the width
+abbrev pub recordAt : ℕ → List ℕ → ℕ → List ℕ
+recordAt width b k = bytesAt b (width * k) width
+
 -- the first k figures that bytes hold
 unfoldable pub figuresIn : ℕ → List ℕ → List ℕ
 figuresIn zero b = []

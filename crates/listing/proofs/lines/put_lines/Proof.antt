@@ -8,7 +8,7 @@ use Rattle.binary64.proofs.Splice.{splice-nil, splice-join}
 use Rattle.records.specs.Layout.{lineOf, firstLines}
 use Rattle.records.proofs.LinesFrom.{record-inside}
 use Rattle.listing.specs.Listing.{lineText, linesText}
-use Rattle.listing.proofs.RecordLines.{recordAt, length-record, linesFrom, lines-step, length-lines-step, no-lines}
+use Rattle.listing.proofs.RecordLines.{recordPart, length-record, linesFrom, lines-step, length-lines-step, no-lines}
 use Rattle.listing.proofs.lines.put_lines.Statement.{statement}
 use Rattle.listing.proofs.lines.put_lines.Tie as tie
 
@@ -51,7 +51,7 @@ put-lines-spec =
     let b = a .archive .now in
     let e = p .put-line .ensures in
     let m = length-lines-step (a .width) (a .n) (l .k) b (t .loop-test .taken) in
-    let w = splice-join (l .out) (l .at) _ (lineText (l .k) (lineOf (recordAt (a .width) b (l .k)))) (linesFrom (a .width) (a .n) b (l .k + 1)) (e .1) refl (e .0) (omega arith) in
+    let w = splice-join (l .out) (l .at) _ (lineText (l .k) (lineOf (recordPart (a .width) b (l .k)))) (linesFrom (a .width) (a .n) b (l .k + 1)) (e .1) refl (e .0) (omega arith) in
     (omega arith, p .put-line .kept .0 ∙ l .inv .1, omega (arith, e .0), w ∙ ap (splice (l .out) (l .at)) (sym (lines-step (a .width) (a .n) (l .k) b (t .loop-test .taken))) ∙ l .inv .3))
     (λ c. c .before .loop .inv .1)
     (λ c.
