@@ -1,6 +1,6 @@
--- Laws of the same filing: by two numbers, `same-numbers`; by the fields that agree, `same-filing-fields`. Whether it is held, record by record: `held-step`, `held-none`.
+-- Laws of the same filing: by two numbers, `same-numbers`; by the fields that agree, `same-filing-fields`.
 use mathlib.Core.Path.{_≡_, refl, _∙_}
-use mathlib.Core.Bool.{Bool, true, false, _&&_, _||_}
+use mathlib.Core.Bool.{Bool, true, false, _&&_}
 use mathlib.Core.List.{List, [], _∷_}
 use Prim.Native.Nat.{ℕ, zero, suc, _+_, _*_, _-_, _≤_, _<_}
 use native.Mathlib.Nat.{add-zero}
@@ -11,11 +11,11 @@ use lib.ListN.{length, getD, take, drop, length-drop}
 use lib.Seq.{getD-drop}
 use Rattle.binary64.specs.Bytes.{AreBytes, numberOf, numberAt}
 use Rattle.scenario.specs.Case.{kindOf, rowOf, routeOf, userOf, dossierOf}
-use Rattle.records.specs.Layout.{recordAt, lineOf, firstLines, caseSize, bytesAt}
-use Rattle.records.specs.Lines.{sameBytes, sameFiling, held}
+use Rattle.records.specs.Layout.{noLine, caseSize, bytesAt, recordAt, lineOf, firstLines}
+use Rattle.records.specs.Lines.{sameBytes, sameFiling}
 use Rattle.records.proofs.RecordLaws.{part-take, part-part}
 use Rattle.records.proofs.Writing.{first-four}
-use Rattle.records.proofs.LinesFrom.{lines-cons, lines-end}
+use Rattle.records.proofs.LinesFrom.{record-inside, line-at}
 
 -- ── equal numbers are equal bytes
 
@@ -40,7 +40,7 @@ unfolding numberAt
 same-part b c i j k bb bc hb hc =
     same-front k (drop i b) (drop j c) (λ n. rw getD-drop (bb (i + n))) (λ n. rw getD-drop (bc (j + n))) (rw length-drop (omega arith)) (rw length-drop (omega arith))
 
--- ── held
+-- ── of record k of n records, each as long as the width w
 
 case-part : (w k i n : ℕ) (b : List ℕ) → caseSize ≤ w → i + n ≤ caseSize → bytesAt (lineOf (recordAt w b k) .case) i n ≡ bytesAt b (w * k + i) n
 unfolding lineOf
@@ -52,22 +52,15 @@ both-ways true false = refl
 both-ways false true = refl
 both-ways false false = refl
 
--- of two numbers read from record k and two of the case
-pub same-numbers : (w k : ℕ) (b c : List ℕ) {x y h d : ℕ} → AreBytes b → AreBytes c → caseSize ≤ w → w * k + w ≤ length b → length c ≡ caseSize
+-- by two numbers read from it and two of the case
+pub same-numbers : (w n k : ℕ) (b c : List ℕ) {x y h d : ℕ} → AreBytes b → AreBytes c → caseSize ≤ w → k < n → w * n ≤ length b → length c ≡ caseSize
     → x ≡ numberAt b (w * k) 4 → h ≡ numberAt c 0 4 → y ≡ numberAt b (w * k + 8) 8 → d ≡ numberAt c 8 8
-    → (eqb y d && eqb x h) ≡ sameFiling (lineOf (recordAt w b k) .case) c
+    → (eqb y d && eqb x h) ≡ sameFiling (getD (firstLines w n b) k noLine .case) c
 unfolding sameFiling
-same-numbers w k b c {x = x₀} {y = y₀} {h = h₀} {d = d₀} bb bc hw hb hc x h y d =
-    both-ways (eqb y₀ d₀) (eqb x₀ h₀) ∙ rw (case-part w k 0 4 b hw (omega arith), case-part w k 8 8 b hw (omega arith), add-zero, x, h, y, d, same-part b c (w * k) 0 4 bb bc (omega arith) (omega arith), same-part b c (w * k + 8) 8 8 bb bc (omega arith) (omega arith))
-
-module _ (w n k : ℕ) (b c : List ℕ) where
-  pub held-step : k < n → held (drop k (firstLines w n b)) c ≡ (sameFiling (lineOf (recordAt w b k) .case) c || held (drop (k + 1) (firstLines w n b)) c)
-  unfolding held
-  held-step h = rw (lines-cons w n k b h)
-
-  pub held-none : n ≤ k → held (drop k (firstLines w n b)) c ≡ false
-  unfolding held
-  held-none h = rw (lines-end w n k b h)
+same-numbers w n k b c {x = x₀} {y = y₀} {h = h₀} {d = d₀} bb bc hw hk hb hc x h y d =
+    let i = record-inside w n k hk in
+    both-ways (eqb y₀ d₀) (eqb x₀ h₀)
+    ∙ rw (line-at w n k b hk, case-part w k 0 4 b hw (omega arith), case-part w k 8 8 b hw (omega arith), add-zero, x, h, y, d, same-part b c (w * k) 0 4 bb bc (omega arith) (omega arith), same-part b c (w * k + 8) 8 8 bb bc (omega arith) (omega arith))
 
 -- ── the same filing in the fields of a case
 
