@@ -4,8 +4,8 @@
 -- Searches over records are in `SameFiling` and `WorstScan`.
 use mathlib.Core.Path.{_≡_, refl, sym, ap, _∙_, subst}
 use mathlib.Core.List.{List, [], _∷_, _++_, append-assoc, append-nil}
-use Prim.Native.Nat.{ℕ, zero, suc, _+_, _*_, _-_, _^_, _≤_, _<_}
-use native.Mathlib.Nat.{mul-suc, mod-eq-of-lt, le-of-suc-le-suc, not-suc-le-zero, zero-add, suc-add}
+use Prim.Native.Nat.{ℕ, zero, suc, _+_, _*_, _^_, _≤_, _<_}
+use native.Mathlib.Nat.{mul-suc, mod-eq-of-lt, le-of-suc-le-suc, not-suc-le-zero}
 use native.Mathlib.Omega.{arith}
 use lib.ListN.{length, getD, take, drop, length-append, length-drop}
 use lib.Seq.{take-at, drop-at, take-append-le, drop-append-le, drop-append-add, drop-drop, take-take, take-nil}
@@ -20,15 +20,11 @@ pub numberAt-drop : (b : List ℕ) (n at w : ℕ) → numberAt (drop n b) at w �
 unfolding numberAt
 numberAt-drop b n at w = ap (λ (l : List ℕ). numberOf (take w l)) (drop-drop at n b)
 
-drop-take : (a m : ℕ) (b : List ℕ) → drop a (take (a + m) b) ≡ take m (drop a b)
-drop-take zero m b = rw zero-add
-drop-take (suc a) m [] = rw suc-add (sym (take-nil m))
-drop-take (suc a) m (x ∷ b) = rw suc-add (drop-take a m b)
-
 pub part-take : (b : List ℕ) (a n m : ℕ) → a + n ≤ m → bytesAt (take m b) a n ≡ bytesAt b a n
-part-take b a n m h =
-    let e : m ≡ a + (m - a) = omega arith in
-    ap (λ (k : ℕ). take n (drop a (take k b))) e ∙ ap (take n) (drop-take a (m - a) b) ∙ take-take n (m - a) (drop a b) (omega arith)
+part-take b zero n m h = take-take n m b (omega arith)
+part-take [] (suc a) n m h = rw take-nil
+part-take (x ∷ b) (suc a) n zero h = absurd (omega arith)
+part-take (x ∷ b) (suc a) n (suc m) h = part-take b a n m (omega arith)
 
 pub part-drop : (b : List ℕ) (a n m : ℕ) → bytesAt (drop m b) a n ≡ bytesAt b (m + a) n
 part-drop b a n m = ap (take n) (drop-drop a m b)

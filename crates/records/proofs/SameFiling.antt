@@ -1,8 +1,8 @@
 -- Laws of the same filing: by two numbers, `same-numbers`; by the fields that agree, `same-filing-fields`.
 use mathlib.Core.Path.{_≡_, refl, _∙_}
-use mathlib.Core.Bool.{Bool, true, false, _&&_}
+use mathlib.Core.Bool.{Bool, true, false, _&&_, and-comm, and-assoc}
 use mathlib.Core.List.{List, [], _∷_}
-use Prim.Native.Nat.{ℕ, zero, suc, _+_, _*_, _-_, _≤_, _<_}
+use Prim.Native.Nat.{ℕ, zero, suc, _+_, _*_, _≤_, _<_}
 use native.Mathlib.Nat.{add-zero}
 use native.Mathlib.Omega.{arith}
 use borrow.Author.Tests.{eq-eqb, ne-eqb, eqb-true, eqb-false}
@@ -46,12 +46,6 @@ case-part : (w k i n : ℕ) (b : List ℕ) → caseSize ≤ w → i + n ≤ case
 unfolding lineOf
 case-part w k i n b d h = part-take (recordAt w b k) i n caseSize h ∙ part-part b (w * k) w i n (omega arith)
 
-both-ways : (a b : Bool) → (a && b) ≡ (b && a)
-both-ways true true = refl
-both-ways true false = refl
-both-ways false true = refl
-both-ways false false = refl
-
 -- by two numbers read from it and two of the case
 pub same-numbers : (w n k : ℕ) (b c : List ℕ) {x y h d : ℕ} → AreBytes b → AreBytes c → caseSize ≤ w → k < n → w * n ≤ length b → length c ≡ caseSize
     → x ≡ numberAt b (w * k) 4 → h ≡ numberAt c 0 4 → y ≡ numberAt b (w * k + 8) 8 → d ≡ numberAt c 8 8
@@ -59,17 +53,10 @@ pub same-numbers : (w n k : ℕ) (b c : List ℕ) {x y h d : ℕ} → AreBytes b
 unfolding sameFiling
 same-numbers w n k b c {x = x₀} {y = y₀} {h = h₀} {d = d₀} bb bc hw hk hb hc x h y d =
     let i = record-inside w n k hk in
-    both-ways (eqb y₀ d₀) (eqb x₀ h₀)
+    and-comm (eqb y₀ d₀) (eqb x₀ h₀)
     ∙ rw (line-at w n k b hk, case-part w k 0 4 b hw (omega arith), case-part w k 8 8 b hw (omega arith), add-zero, x, h, y, d, same-part b c (w * k) 0 4 bb bc (omega arith) (omega arith), same-part b c (w * k + 8) 8 8 bb bc (omega arith) (omega arith))
 
 -- ── the same filing in the fields of a case
-
-regroup : (p q r s t : Bool) → ((p && (q && (r && (s && true)))) && t) ≡ (p && (q && (r && (s && t))))
-regroup false q r s t = refl
-regroup true false r s t = refl
-regroup true true false s t = refl
-regroup true true true false t = refl
-regroup true true true true t = refl
 
 -- the fields on which two cases agree that are the same filing: kind, row, route, user, dossier number, and no other
 pub same-filing-fields : (c d : List ℕ) → AreBytes c → AreBytes d → length c ≡ 64 → length d ≡ 64
@@ -77,4 +64,4 @@ pub same-filing-fields : (c d : List ℕ) → AreBytes c → AreBytes d → leng
 unfolding sameFiling
 same-filing-fields c d bc bd hc hd =
     rw (first-four c (omega arith), first-four d (omega arith), same-part c d 8 8 8 bc bd (omega arith) (omega arith))
-    (regroup (eqb (getD c 0 0) (getD d 0 0)) (eqb (getD c 1 0) (getD d 1 0)) (eqb (getD c 2 0) (getD d 2 0)) (eqb (getD c 3 0) (getD d 3 0)) (sameBytes (bytesAt c 8 8) (bytesAt d 8 8)))
+    (simp and-assoc)
