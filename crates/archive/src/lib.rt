@@ -113,7 +113,7 @@ pub fn worst(archive: &[u8], used: u64, compartment: u64) -> Highest
     if n == 0 {
         return Highest::Refused(24);
     }
-    Highest::Number(search::worst_of(archive, n, compartment as usize) as u64)
+    Highest::Number(search::worst_of(archive, records::RECORD_SIZE, n, compartment as usize) as u64)
 }
 
 // Whether bytes are a record, and its four figures. Where they are none, the figures are 0 and count as no result.

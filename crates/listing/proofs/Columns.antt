@@ -11,20 +11,16 @@ use native.Mathlib.Omega.{arith}
 use lib.ListN.{length, getD, set, take, drop, drop-of-length-le, length-append}
 use lib.Seq.{drop-cons, getD-take}
 use Rattle.natural.proofs.Ceiling.{ceiling-of}
-use Rattle.binary64.specs.Bytes.{numberOf, numberAt, splice}
+use Rattle.binary64.specs.Bytes.{numberAt, splice}
 use Rattle.binary64.proofs.Numbers.{numberAt-one}
 use Rattle.binary64.proofs.Splice.{splice-join}
 use Rattle.records.specs.Layout.{lineOf}
-use Rattle.records.proofs.RecordLaws.{part-take, line-figures}
+use Rattle.records.proofs.RecordLaws.{number-part, line-figures}
 use Rattle.listing.specs.Decimal.{decimal}
 use Rattle.listing.specs.Listing.{space, lineFeed, milligrams, columnsOf, columnsText}
 use Rattle.listing.proofs.Stores.{store-one}
 
 -- ── of a record
-
-dossier-at : (r : List ℕ) → numberAt (take 64 r) 8 8 ≡ numberAt r 8 8
-unfolding numberAt
-dossier-at r = ap numberOf (part-take r 8 8 64 (omega arith))
 
 byte-at : (r : List ℕ) (i : ℕ) → i < 64 → getD (take 64 r) i 0 ≡ numberAt r i 1
 byte-at r i h = getD-take 64 r i 0 h ∙ sym (numberAt-one r i)
@@ -34,7 +30,7 @@ pub columns-are : (r : List ℕ)
     ≡ numberAt r 8 8 ∷ numberAt r 0 1 ∷ numberAt r 1 1 ∷ numberAt r 2 1
     ∷ milligrams (numberAt r 64 8) ∷ milligrams (numberAt r 72 8) ∷ milligrams (numberAt r 80 8) ∷ milligrams (numberAt r 88 8) ∷ []
 unfolding columnsOf lineOf
-columns-are r = rw (line-figures r, dossier-at r, byte-at r 0 (omega arith), byte-at r 1 (omega arith), byte-at r 2 (omega arith))
+columns-are r = rw (line-figures r, number-part r 0 64 8 8 (omega arith), byte-at r 0 (omega arith), byte-at r 1 (omega arith), byte-at r 2 (omega arith))
 
 pub length-columns : {xs : List ℕ} (r : List ℕ) → xs ≡ columnsOf (lineOf r) → length xs ≡ 8
 length-columns r e = ap length (e ∙ columns-are r)

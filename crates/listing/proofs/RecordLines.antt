@@ -1,21 +1,21 @@
 -- Laws of the lines of records.
---   length-line, line-written                                          a line: its number, then its columns
---   recordAt, record-part, length-record                               record k as a part of the archive
---   linesFrom, lines-start, lines-step, length-lines-step, lines-end   the lines from record k on
---   take-bytes, line-at-most, lines-at-most                            bounds on lengths, of records that are bytes
+--   length-line, line-written                              a line: its number, then its columns
+--   recordPart, length-record                              record k as a part of the archive
+--   linesFrom, lines-step, length-lines-step, no-lines     the lines from record k on
+--   take-bytes, line-at-most, lines-at-most                bounds on lengths, of records that are bytes
 -- What a line's columns are is in `Columns`.
 use mathlib.Core.Path.{_≡_, ap, _∙_}
 use mathlib.Core.List.{List, [], _∷_, _++_}
 use Prim.Native.Nat.{ℕ, zero, suc, _+_, _*_, _-_, _^_, _≤_, _<_}
-use native.Mathlib.Nat.{sub-zero}
 use native.Mathlib.Omega.{arith}
 use lib.ListN.{length, take, drop, length-append, length-drop}
-use lib.Seq.{drop-drop, getD-drop, length-take-le}
+use lib.Seq.{getD-drop, length-take-le}
 use Rattle.natural.proofs.Ceiling.{ceiling-at-most}
 use Rattle.binary64.specs.Bytes.{AreBytes, numberAt, splice}
 use Rattle.binary64.proofs.Numbers.{numberAt-small}
 use Rattle.binary64.proofs.Splice.{splice-join}
-use Rattle.records.specs.Layout.{Line, lineOf, firstLines, recordSize}
+use Rattle.records.specs.Layout.{Line, lineOf, firstLines}
+use Rattle.records.proofs.LinesFrom.{lines-cons, lines-end}
 use Rattle.listing.specs.Decimal.{decimal}
 use Rattle.listing.specs.Listing.{milligrams, columnsOf, columnsText, lineText, linesText}
 use Rattle.listing.proofs.DecimalText.{decimal-at-most}
@@ -33,38 +33,32 @@ unfolding lineText
 line-written a at k l e f x q h =
     splice-join a at _ (decimal k) (columnsText (columnsOf l)) e (rw x at f) q (omega (arith, length-line k l))
 
--- ── the lines from record k on
+-- ── of n records, each as long as the width w, in a buffer b
 
-abbrev pub recordAt : List ℕ → ℕ → List ℕ
-recordAt b k = take recordSize (drop (recordSize * k) b)
+-- record k, as a part from a start to an end has it
+abbrev pub recordPart : ℕ → List ℕ → ℕ → List ℕ
+recordPart w b k = take (w * k + w - w * k) (drop (w * k) b)
 
--- as a part from a start to an end has it
-pub record-part : (b : List ℕ) (k : ℕ) → take (recordSize * k + recordSize - recordSize * k) (drop (recordSize * k) b) ≡ recordAt b k
-record-part b k = let e : recordSize * k + recordSize - recordSize * k ≡ recordSize = omega arith in rw e
+part-size : (w k : ℕ) → w * k + w - w * k ≡ w
+part-size w k = omega arith
 
-pub length-record : (b : List ℕ) (k : ℕ) → recordSize * k + recordSize ≤ length b → length (recordAt b k) ≡ recordSize
-length-record b k h = length-take-le recordSize (drop (recordSize * k) b) (rw length-drop (omega arith))
+pub length-record : (w k : ℕ) (b : List ℕ) → w * k + w ≤ length b → length (recordPart w b k) ≡ w
+length-record w k b h = rw (part-size w k) (length-take-le w (drop (w * k) b) (rw length-drop (omega arith)))
 
-unfoldable pub linesFrom : List ℕ → ℕ → ℕ → List ℕ
-linesFrom b n k = linesText k (firstLines recordSize (n - k) (drop (recordSize * k) b))
+-- the lines from record k on
+abbrev pub linesFrom : ℕ → ℕ → List ℕ → ℕ → List ℕ
+linesFrom w n b k = linesText k (drop k (firstLines w n b))
 
-pub lines-start : (b : List ℕ) (n : ℕ) → linesFrom b n 0 ≡ linesText 0 (firstLines recordSize n b)
-unfolding linesFrom
-lines-start b n = rw sub-zero
+pub lines-step : (w n k : ℕ) (b : List ℕ) → k < n → linesFrom w n b k ≡ lineText k (lineOf (recordPart w b k)) ++ linesFrom w n b (k + 1)
+unfolding linesText
+lines-step w n k b h = rw (part-size w k, lines-cons w n k b h)
 
-pub lines-step : (b : List ℕ) (n k : ℕ) → k < n → linesFrom b n k ≡ lineText k (lineOf (recordAt b k)) ++ linesFrom b n (k + 1)
-unfolding linesFrom linesText firstLines
-lines-step b n k h =
-    let d : n - k ≡ suc (n - (k + 1)) = omega arith in
-    let e : recordSize * (k + 1) ≡ recordSize * k + recordSize = omega arith in
-    rw (d, e, ← drop-drop recordSize (recordSize * k) b)
+pub length-lines-step : (w n k : ℕ) (b : List ℕ) → k < n → length (linesFrom w n b k) ≡ length (lineText k (lineOf (recordPart w b k))) + length (linesFrom w n b (k + 1))
+length-lines-step w n k b h = ap length (lines-step w n k b h) ∙ length-append (lineText k (lineOf (recordPart w b k))) (linesFrom w n b (k + 1))
 
-pub length-lines-step : (b : List ℕ) (n k : ℕ) → k < n → length (linesFrom b n k) ≡ length (lineText k (lineOf (recordAt b k))) + length (linesFrom b n (k + 1))
-length-lines-step b n k h = ap length (lines-step b n k h) ∙ length-append (lineText k (lineOf (recordAt b k))) (linesFrom b n (k + 1))
-
-pub lines-end : (b : List ℕ) (n k : ℕ) → n ≤ k → linesFrom b n k ≡ []
-unfolding linesFrom linesText firstLines
-lines-end b n k h = let d : n - k ≡ 0 = omega arith in rw d
+pub no-lines : (w n k : ℕ) (b : List ℕ) → n ≤ k → linesFrom w n b k ≡ []
+unfolding linesText
+no-lines w n k b h = rw (lines-end w n k b h)
 
 -- ── bounds
 
@@ -104,9 +98,9 @@ line-at-most r k h g =
     let columns = column-more _ 20 85 _ dossier (column-more _ 3 81 _ (byte 0) (column-more _ 3 77 _ (byte 1) (column-more _ 3 73 _ (byte 2) figures))) in
     omega (arith, length-line k (lineOf r), ap (λ (xs : List ℕ). length (columnsText xs)) (columns-are r), columns, decimal-at-most 2 k g)
 
-pub lines-at-most : (m k : ℕ) (b : List ℕ) → AreBytes b → k + m ≤ 1000 → length (linesText k (firstLines recordSize m b)) ≤ 109 * m
+pub lines-at-most : (w m k : ℕ) (b : List ℕ) → AreBytes b → k + m ≤ 1000 → length (linesText k (firstLines w m b)) ≤ 109 * m
 unfolding linesText firstLines
-lines-at-most zero k b h g = omega arith
-lines-at-most (suc m) k b h g =
-    let l = lineOf (take recordSize b) in
-    omega (arith, length-append (lineText k l) (linesText (k + 1) (firstLines recordSize m (drop recordSize b))), line-at-most (take recordSize b) k (take-bytes recordSize b h) (omega arith), lines-at-most m (k + 1) (drop recordSize b) (drop-bytes recordSize b h) (omega arith))
+lines-at-most w zero k b h g = omega arith
+lines-at-most w (suc m) k b h g =
+    let l = lineOf (take w b) in
+    omega (arith, length-append (lineText k l) (linesText (k + 1) (firstLines w m (drop w b))), line-at-most (take w b) k (take-bytes w b h) (omega arith), lines-at-most w m (k + 1) (drop w b) (drop-bytes w b h) (omega arith))

@@ -70,7 +70,7 @@ at-most-by : (b : List ℕ) → AreBytes b → (r : Bool) → refused b ≡ r �
 at-most-by b h true e = omega (arith, length-refused b e)
 at-most-by b h false e =
     let a = accepted-facts b e in
-    omega (arith, length-accepted b e refl refl, lines-at-most (countIn b) 0 b h (omega arith))
+    omega (arith, length-accepted b e refl refl, lines-at-most recordSize (countIn b) 0 b h (omega arith))
 
 -- A buffer of this size holds the listing of every input.
 pub listing-at-most : (b : List ℕ) → AreBytes b → length (listingOf b) ≤ mostOutput

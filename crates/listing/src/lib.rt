@@ -7,6 +7,7 @@ ghost use lib.ListN.{length};
 ghost use Rattle.binary64.specs.Bytes.{splice};
 ghost use Rattle.listing.specs.Listing.{mostInput, mostOutput, refused, listingOf, listed, ofListed, lengths, listedBytes, ReadOf};
 use binary64::bytes::put_bytes;
+use records::RECORD_SIZE;
 use records::count_at;
 use records::is_broken;
 
@@ -42,7 +43,7 @@ fn listing_length(archive: &[u8]) -> usize
         return REFUSAL_SIZE;
     }
     let n = count_at(archive, archive.len() as u64);
-    HEADER_SIZE + lines::lines_length(archive, n)
+    HEADER_SIZE + lines::lines_length(archive, RECORD_SIZE, n)
 }
 
 fn put_listing(out: &mut [u8], archive: &[u8])
@@ -55,7 +56,7 @@ fn put_listing(out: &mut [u8], archive: &[u8])
     }
     let n = count_at(archive, archive.len() as u64);
     put_bytes(out, 0, b"n dossier kind row route stp surface air soil\n");
-    lines::put_lines(out, HEADER_SIZE, archive, n);
+    lines::put_lines(out, HEADER_SIZE, archive, RECORD_SIZE, n);
 }
 
 // Prints an archive, all of whose bytes are its used length. An output buffer that is too short is left as it was.

@@ -3,14 +3,13 @@ ghost use mathlib.Core.Path.{_≡_};
 ghost use Prim.Native.Nat.{_+_, _*_, _≤_, _<_};
 ghost use lib.ListN.{length};
 ghost use Rattle.binary64.specs.Bytes.{splice};
-ghost use Rattle.records.specs.Layout.{firstLines, lineOf, recordSize};
+ghost use Rattle.records.specs.Layout.{firstLines, lineOf, figuresEnd};
 ghost use Rattle.listing.specs.Listing.{columnsOf, columnsText, lineText, linesText};
 ghost use Rattle.listing.specs.Listing.{milligrams as Listing·milligrams};
 use crate::decimal::decimal_length;
 use crate::decimal::put_decimal;
 use binary64::bytes::u8_at;
 use binary64::bytes::u64_at;
-use records::RECORD_SIZE;
 use records::figures_at;
 
 const SPACE: u8 = 32;
@@ -30,7 +29,7 @@ fn milligrams(figure: u64) -> u64
 
 // The columns of a record behind its number.
 fn columns_of(bytes: &[u8]) -> [u64; 8]
-    requires { ⌜ recordSize ≤ length (now bytes) ⌝ }
+    requires { ⌜ figuresEnd ≤ length (now bytes) ⌝ }
     ensures { λ r. ⌜ r ≡ columnsOf (lineOf (now (bytes .entry))) ⌝ }
 {
     let figures = figures_at(bytes);
@@ -60,23 +59,23 @@ fn columns_length(columns: &[u64]) -> usize
 }
 
 fn line_length(number: usize, bytes: &[u8]) -> usize
-    requires { ⌜ (recordSize ≤ length (now bytes)) × (number < 1000) ⌝ }
+    requires { ⌜ (figuresEnd ≤ length (now bytes)) × (number < 1000) ⌝ }
     ensures { λ r. ⌜ r ≡ length (lineText number (lineOf (now (bytes .entry)))) ⌝ }
 {
     let columns = columns_of(bytes);
     decimal_length(number as u64) + columns_length(&columns)
 }
 
-// Of n records.
-pub fn lines_length(archive: &[u8], n: usize) -> usize
-    requires { ⌜ (recordSize * n ≤ length (now archive)) × (n ≤ 682) ⌝ }
-    ensures { λ r. ⌜ r ≡ length (linesText 0 (firstLines recordSize n (now (archive .entry)))) ⌝ }
+// Of n records, each as long as the width.
+pub fn lines_length(archive: &[u8], width: usize, n: usize) -> usize
+    requires { ⌜ (width * n ≤ length (now archive)) × (figuresEnd ≤ width) × (n ≤ 682) ⌝ }
+    ensures { λ r. ⌜ r ≡ length (linesText 0 (firstLines width n (now (archive .entry)))) ⌝ }
 {
     let mut sum: usize = 0;
     let mut k: usize = 0;
     while k < n {
-        let at = RECORD_SIZE * k;
-        sum += line_length(k, &archive[at..at + RECORD_SIZE]);
+        let at = width * k;
+        sum += line_length(k, &archive[at..at + width]);
         k += 1;
     }
     sum
@@ -100,7 +99,7 @@ fn put_columns(out: &mut [u8], start: usize, columns: &[u64]) -> usize
 
 // Writes the line of a record from `at` on, and gives the place behind it.
 fn put_line(out: &mut [u8], at: usize, number: usize, bytes: &[u8]) -> usize
-    requires { ⌜ (recordSize ≤ length (now bytes)) × (at + length (lineText number (lineOf (now bytes))) ≤ length (now out)) ⌝ }
+    requires { ⌜ (figuresEnd ≤ length (now bytes)) × (at + length (lineText number (lineOf (now bytes))) ≤ length (now out)) ⌝ }
     ensures { λ r. ⌜ (r ≡ at + length (lineText number (lineOf (now (bytes .entry))))) × (now (out .exit) ≡ splice (now (out .entry)) at (lineText number (lineOf (now (bytes .entry))))) ⌝ }
 {
     let columns = columns_of(bytes);
@@ -108,16 +107,16 @@ fn put_line(out: &mut [u8], at: usize, number: usize, bytes: &[u8]) -> usize
     put_columns(out, next, &columns)
 }
 
-// Writes the lines of n records from `start` on.
-pub fn put_lines(out: &mut [u8], start: usize, archive: &[u8], n: usize)
-    requires { ⌜ (recordSize * n ≤ length (now archive)) × (start + length (linesText 0 (firstLines recordSize n (now archive))) ≤ length (now out)) ⌝ }
-    ensures { λ _. ⌜ now (out .exit) ≡ splice (now (out .entry)) start (linesText 0 (firstLines recordSize n (now (archive .entry)))) ⌝ }
+// Writes the lines of n records, each as long as the width, from `start` on.
+pub fn put_lines(out: &mut [u8], start: usize, archive: &[u8], width: usize, n: usize)
+    requires { ⌜ (width * n ≤ length (now archive)) × (figuresEnd ≤ width) × (start + length (linesText 0 (firstLines width n (now archive))) ≤ length (now out)) ⌝ }
+    ensures { λ _. ⌜ now (out .exit) ≡ splice (now (out .entry)) start (linesText 0 (firstLines width n (now (archive .entry)))) ⌝ }
 {
     let mut at = start;
     let mut k: usize = 0;
     while k < n {
-        let from = RECORD_SIZE * k;
-        at = put_line(out, at, k, &archive[from..from + RECORD_SIZE]);
+        let from = width * k;
+        at = put_line(out, at, k, &archive[from..from + width]);
         k += 1;
     }
 }

@@ -1,23 +1,24 @@
 -- The fields cover the record, each byte once: `fields-cover`; those of the case are the fields that it is written by: `fields-of-case`.
 -- Writing a line leaves each field's bytes at its offset: `written-field`, and of any place in the case or of a figure `written-at`.
-use mathlib.Core.Path.{_≡_, refl, _∙_}
+use mathlib.Core.Path.{_≡_, refl, sym, ap, _∙_}
 use mathlib.Core.Bool.{Bool, true, _&&_}
-use mathlib.Core.List.{List, [], _∷_, _++_, append-assoc, map}
+use mathlib.Core.List.{List, [], _∷_, _++_, map}
 use Prim.Native.Nat.{ℕ, zero, suc, _+_, _*_, _≤_, _<_}
 use native.Mathlib.Nat.{le-of-suc-le-suc, not-suc-le-zero, mul-suc}
 use native.Mathlib.Omega.{arith}
 use borrow.Author.Tests.{leb-true, eqb-true, ltb-true}
 use lib.Dec.{eqb, leb, ltb}
-use lib.ListN.{length, take, drop, getD, length-drop}
-use lib.Seq.{take-at, take-append-le, drop-append-le, drop-append-add, length-take-le}
+use lib.ListN.{length, take, getD, length-append}
+use lib.Seq.{take-at, drop-append-add}
 use Rattle.binary64.specs.Bytes.{bytesOf, splice}
 use Rattle.binary64.proofs.Numbers.{length-bytesOf}
+use Rattle.binary64.proofs.Splice.{splice-read}
 use Rattle.scenario.specs.Builder.{caseBytes}
 use Rattle.binary64.proofs.Bools.{both, every, every-at}
 use Rattle.records.specs.Layout.{Line, figureBytes, recordOf, trailer, recordSize, edition, bytesAt}
 use Rattle.records.specs.Fields.{Source, given, figureAt, Field, fields, noField, coversFrom, fieldBytes}
 use Rattle.records.specs.Buffer.{written}
-use Rattle.records.proofs.RecordLaws.{Sized, length-recordOf}
+use Rattle.records.proofs.RecordLaws.{part-part, part-append, Sized, length-recordOf}
 
 pub fields-cover : coversFrom 0 fields ≡ true
 fields-cover = refl
@@ -47,9 +48,7 @@ figure-place (f ∷ fs) (suc k) h =
 
 in-record : (l : Line) (o w : ℕ) (s : Source) → Sized l → Placed o w s → bytesAt (recordOf l) o w ≡ fieldBytes l o w s
 unfolding recordOf
-in-record l o w given h p =
-    let c = h .case-size in
-    rw (drop-append-le o (l .case) (figureBytes (l .figures)) (omega arith)) (take-append-le w (drop o (l .case)) (figureBytes (l .figures)) (rw length-drop (omega arith)))
+in-record l o w given h p = let c = h .case-size in part-append (l .case) (figureBytes (l .figures)) o w (omega arith)
 in-record l o w (figureAt k) h p =
     let f = h .four in
     let q : o ≡ length (l .case) + 8 * k = rw (h .case-size) (p .0) in
@@ -74,20 +73,16 @@ within-record o w (figureAt k) p = omega arith
 -- ── and in what is written
 
 -- what was spliced in is read back
-read-back : (l vs ws : List ℕ) (at o w : ℕ) → at ≤ length l → o + w ≤ length vs → bytesAt (splice l at (vs ++ ws)) (at + o) w ≡ bytesAt vs o w
-unfolding splice
-read-back l vs ws at o w h k =
-    let r = drop (at + length (vs ++ ws)) l in
-    let p : at + o ≡ length (take at l) + o = rw (length-take-le at l h) in
-    let q : (take at l ++ (vs ++ ws)) ++ r ≡ take at l ++ (vs ++ (ws ++ r)) = simp append-assoc in
-    rw (q, p, drop-append-add (take at l) (vs ++ (ws ++ r)) o, drop-append-le o vs (ws ++ r) (omega arith))
-    (take-append-le w (drop o vs) (ws ++ r) (rw length-drop (omega arith)))
+read-back : (l : List ℕ) (at : ℕ) (vs : List ℕ) (o w : ℕ) → at ≤ length l → o + w ≤ length vs → bytesAt (splice l at vs) (at + o) w ≡ bytesAt vs o w
+read-back l at vs o w h k = sym (part-part (splice l at vs) at (length vs) o w k) ∙ ap (λ (r : List ℕ). bytesAt r o w) (splice-read l at vs h)
 
 pub written-at : (b : List ℕ) (n : ℕ) (l : Line) (o w : ℕ) (s : Source) → Sized l → recordSize * n ≤ length b → Placed o w s
     → bytesAt (written b n l) (recordSize * n + o) w ≡ fieldBytes l o w s
 unfolding written
 written-at b n l o w s h a p =
-    read-back b (recordOf l) (trailer recordSize edition (n + 1)) (recordSize * n) o w a (rw (length-recordOf l h) (within-record o w s p)) ∙ in-record l o w s h p
+    let t = trailer recordSize edition (n + 1) in
+    let k : o + w ≤ length (recordOf l) = rw (length-recordOf l h) (within-record o w s p) in
+    read-back b (recordSize * n) (recordOf l ++ t) o w a (omega (arith, length-append (recordOf l) t)) ∙ part-append (recordOf l) t o w k ∙ in-record l o w s h p
 
 pub written-field : (b : List ℕ) (n : ℕ) (l : Line) → Sized l → recordSize * n ≤ length b → (k : ℕ) → k < length fields
     → let f = getD fields k noField in

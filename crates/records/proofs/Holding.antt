@@ -4,13 +4,13 @@
 use mathlib.Core.Path.{_≡_, refl, sym, ap, _∙_}
 use mathlib.Core.Bool.{false}
 use mathlib.Core.List.{List, [], _∷_, _++_, append-assoc}
-use Prim.Native.Nat.{ℕ, _+_, _*_, _-_, _≤_, _<_}
+use Prim.Native.Nat.{ℕ, _+_, _*_, _≤_, _<_}
 use native.Mathlib.Omega.{arith}
 use lib.ListN.{length, getD, take, drop, length-append, take-append-drop}
 use lib.Seq.{take-at}
 use Rattle.binary64.specs.Bytes.{splice}
 use Rattle.binary64.proofs.Splice.{length-splice}
-use Rattle.records.specs.Layout.{Line, noLine, recordOf, records, trailer, archiveOf, firstLines, trailerSize, usedLength, mostRecords, recordSize, edition, bytesAt}
+use Rattle.records.specs.Layout.{Line, noLine, recordOf, records, trailer, archiveOf, firstLines, trailerSize, usedLength, mostRecords, recordSize, edition, recordAt}
 use Rattle.records.specs.Buffer.{countAt, broken, linesIn, written}
 use Rattle.records.proofs.RecordLaws.{AllStorable, Storable, storable-snoc, length-recordOf, length-records, firstLines-records, record-at, records-snoc}
 use Rattle.records.proofs.Trailer.{TrailerRead, trailer-read, trailer-sound}
@@ -37,8 +37,8 @@ module _ {b : List ℕ} {u : ℕ} {ls : List Line} (s : HoldsLines b u ls) where
   long : length (records ls) ≡ recordSize * length ls
   long = length-records ls (s .storable)
 
-  read : TrailerRead b u n
-  read = trailer-read (records ls) rest whole (omega (arith, long, s .length-is)) (s .few)
+  read : TrailerRead b u recordSize edition n
+  read = trailer-read (records ls) rest whole (omega (arith, long, s .length-is)) (omega (arith, s .few)) (omega (arith, s .few)) (omega arith)
 
   pub count-is : countAt b u ≡ length ls
   count-is = read .count-is
@@ -49,8 +49,8 @@ module _ {b : List ℕ} {u : ℕ} {ls : List Line} (s : HoldsLines b u ls) where
   pub lines-are : linesIn b u ≡ ls
   lines-are = rw count-is (ap (firstLines recordSize n) whole ∙ firstLines-records ls (trailer recordSize edition n ++ rest) (s .storable))
 
-  pub record-is : (k : ℕ) → k < length ls → bytesAt b (recordSize * k) recordSize ≡ recordOf (getD ls k noLine)
-  record-is k h = ap (λ (r : List ℕ). bytesAt r (recordSize * k) recordSize) whole ∙ record-at ls (trailer recordSize edition n ++ rest) k (s .storable) h
+  pub record-is : (k : ℕ) → k < length ls → recordAt recordSize b k ≡ recordOf (getD ls k noLine)
+  record-is k h = ap (λ (r : List ℕ). recordAt recordSize r k) whole ∙ record-at ls (trailer recordSize edition n ++ rest) k (s .storable) h
 
   front : take (recordSize * length ls) b ≡ records ls
   front = ap (take (recordSize * n)) whole ∙ take-at (records ls) (trailer recordSize edition n ++ rest) (recordSize * n) long

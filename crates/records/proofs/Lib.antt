@@ -4,6 +4,7 @@ pub mod RecordLaws
 pub mod Trailer
 pub mod LinesFrom
 pub mod SameFiling
+pub mod Order
 pub mod WorstScan
 pub mod HeldLine
 pub mod WorstLine

@@ -1,30 +1,29 @@
--- The lines of a buffer from record k on: `from`, `from-start`, `from-end`, `from-cons`; the line of record k: `lineAt`.
-use mathlib.Core.Path.{_≡_}
+-- The lines of n records, each as long as the width w, in a buffer b. The line of record k: `line-at`; those from record k on: `lines-cons`, `lines-end`.
+-- Where record k ends: `record-inside`.
+use mathlib.Core.Path.{_≡_, _∙_}
 use mathlib.Core.List.{List, [], _∷_}
-use Prim.Native.Nat.{ℕ, suc, _+_, _*_, _-_, _≤_, _<_}
-use native.Mathlib.Nat.{sub-zero}
+use Prim.Native.Nat.{ℕ, zero, suc, _+_, _*_, _≤_, _<_}
+use native.Mathlib.Nat.{mul-zero, mul-suc, mul-le-mul-left, le-of-suc-le-suc, not-suc-le-zero}
+use native.Mathlib.Numerals.{add-one}
 use native.Mathlib.Omega.{arith}
-use lib.ListN.{take, drop}
-use lib.Seq.{drop-drop}
-use Rattle.records.specs.Layout.{Line, lineOf, firstLines, recordSize}
+use lib.ListN.{getD, drop, drop-of-length-le}
+use lib.Seq.{drop-cons, drop-drop}
+use Rattle.records.specs.Layout.{noLine, recordAt, lineOf, firstLines}
+use Rattle.records.proofs.RecordLaws.{length-firstLines}
 
-unfoldable pub from : List ℕ → ℕ → ℕ → List Line
-from b n k = firstLines recordSize (n - k) (drop (recordSize * k) b)
+pub record-inside : (w n k : ℕ) → k < n → w * k + w ≤ w * n
+record-inside w n k h = let e : w * (k + 1) ≤ w * n = mul-le-mul-left {m = k + 1} {n = n} w (omega arith) in omega arith
 
-pub from-start : (b : List ℕ) (n : ℕ) → from b n 0 ≡ firstLines recordSize n b
-unfolding from
-from-start b n = rw sub-zero
+pub line-at : (w n k : ℕ) (b : List ℕ) → k < n → getD (firstLines w n b) k noLine ≡ lineOf (recordAt w b k)
+unfolding firstLines
+line-at w zero k b h = absurd (not-suc-le-zero h)
+line-at w (suc n) zero b h = rw mul-zero
+line-at w (suc n) (suc k) b h =
+    let e : w * suc k ≡ w + w * k = omega (arith, mul-suc w k) in
+    line-at w n k (drop w b) (le-of-suc-le-suc h) ∙ rw (e, ← drop-drop (w * k) w b)
 
-pub from-end : (b : List ℕ) (n k : ℕ) → n ≤ k → from b n k ≡ []
-unfolding from firstLines
-from-end b n k h = let d : n - k ≡ 0 = omega arith in rw d
+pub lines-cons : (w n k : ℕ) (b : List ℕ) → k < n → drop k (firstLines w n b) ≡ lineOf (recordAt w b k) ∷ drop (k + 1) (firstLines w n b)
+lines-cons w n k b h = let l = length-firstLines w n b in rw (drop-cons (firstLines w n b) k noLine (omega arith), add-one k, line-at w n k b h)
 
-unfoldable pub lineAt : List ℕ → ℕ → Line
-lineAt b k = lineOf (take recordSize (drop (recordSize * k) b))
-
-pub from-cons : (b : List ℕ) (n k : ℕ) → k < n → from b n k ≡ lineAt b k ∷ from b n (k + 1)
-unfolding from firstLines lineAt
-from-cons b n k h =
-    let d : n - k ≡ suc (n - (k + 1)) = omega arith in
-    let e : recordSize * (k + 1) ≡ recordSize * k + recordSize = omega arith in
-    rw (d, e, ← drop-drop recordSize (recordSize * k) b)
+pub lines-end : (w n k : ℕ) (b : List ℕ) → n ≤ k → drop k (firstLines w n b) ≡ []
+lines-end w n k b h = let l = length-firstLines w n b in drop-of-length-le (firstLines w n b) {i = k} (omega arith)

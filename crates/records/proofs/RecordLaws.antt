@@ -1,17 +1,17 @@
 -- Laws of records: what is written is read back.
--- Numbers: `number-back`, `figures-back`. Lines that a record holds: `Sized`, `Storable`, `AllStorable`, `storable-snoc`. Lengths: `length-recordOf`, `length-records`, `length-firstLines`.
--- Back: `line-record`, `firstLines-records`, `record-at`. One more line: `records-snoc`. Places: `numberAt-drop`, `part-take`, `part-drop`, `line-figures`.
+-- Numbers: `number-behind`, `figures-back`. Lines that a record holds: `Sized`, `Storable`, `AllStorable`, `storable-snoc`. Lengths: `length-recordOf`, `length-records`, `length-firstLines`.
+-- Back: `line-record`, `firstLines-records`, `record-at`. One more line: `records-snoc`. Places: `numberAt-drop`, `part-take`, `part-drop`, `part-part`, `number-part`, `part-append`, `line-figures`.
 -- Searches over records are in `SameFiling` and `WorstScan`.
 use mathlib.Core.Path.{_≡_, refl, sym, ap, _∙_, subst}
 use mathlib.Core.List.{List, [], _∷_, _++_, append-assoc, append-nil}
-use Prim.Native.Nat.{ℕ, zero, suc, _+_, _*_, _-_, _^_, _≤_, _<_}
-use native.Mathlib.Nat.{mul-suc, mod-eq-of-lt, le-of-suc-le-suc, not-suc-le-zero, zero-add, suc-add}
+use Prim.Native.Nat.{ℕ, zero, suc, _+_, _*_, _^_, _≤_, _<_}
+use native.Mathlib.Nat.{mul-suc, mod-eq-of-lt, le-of-suc-le-suc, not-suc-le-zero}
 use native.Mathlib.Omega.{arith}
-use lib.ListN.{length, getD, take, drop, length-append}
-use lib.Seq.{take-at, drop-at, drop-append-add, drop-drop, take-take, take-nil}
+use lib.ListN.{length, getD, take, drop, length-append, length-drop}
+use lib.Seq.{take-at, drop-at, take-append-le, drop-append-le, drop-append-add, drop-drop, take-take, take-nil}
 use Rattle.binary64.specs.Bytes.{bytesOf, numberOf, numberAt}
 use Rattle.binary64.proofs.Numbers.{length-bytesOf, numberOf-bytesOf}
-use Rattle.records.specs.Layout.{Line, noLine, figureBytes, figuresIn, recordOf, records, lineOf, firstLines, caseSize, recordSize, bytesAt}
+use Rattle.records.specs.Layout.{Line, noLine, figureBytes, figuresIn, recordOf, records, lineOf, firstLines, caseSize, recordSize, bytesAt, recordAt}
 use Rattle.records.proofs.Writing.{length-figureBytes}
 
 -- ── places
@@ -20,18 +20,25 @@ pub numberAt-drop : (b : List ℕ) (n at w : ℕ) → numberAt (drop n b) at w �
 unfolding numberAt
 numberAt-drop b n at w = ap (λ (l : List ℕ). numberOf (take w l)) (drop-drop at n b)
 
-drop-take : (a m : ℕ) (b : List ℕ) → drop a (take (a + m) b) ≡ take m (drop a b)
-drop-take zero m b = rw zero-add
-drop-take (suc a) m [] = rw suc-add (sym (take-nil m))
-drop-take (suc a) m (x ∷ b) = rw suc-add (drop-take a m b)
-
 pub part-take : (b : List ℕ) (a n m : ℕ) → a + n ≤ m → bytesAt (take m b) a n ≡ bytesAt b a n
-part-take b a n m h =
-    let e : m ≡ a + (m - a) = omega arith in
-    ap (λ (k : ℕ). take n (drop a (take k b))) e ∙ ap (take n) (drop-take a (m - a) b) ∙ take-take n (m - a) (drop a b) (omega arith)
+part-take b zero n m h = take-take n m b (omega arith)
+part-take [] (suc a) n m h = rw take-nil
+part-take (x ∷ b) (suc a) n zero h = absurd (omega arith)
+part-take (x ∷ b) (suc a) n (suc m) h = part-take b a n m (omega arith)
 
 pub part-drop : (b : List ℕ) (a n m : ℕ) → bytesAt (drop m b) a n ≡ bytesAt b (m + a) n
 part-drop b a n m = ap (take n) (drop-drop a m b)
+
+-- part of a part, and a number in it
+pub part-part : (b : List ℕ) (at n o w : ℕ) → o + w ≤ n → bytesAt (bytesAt b at n) o w ≡ bytesAt b (at + o) w
+part-part b at n o w h = part-take (drop at b) o w n h ∙ part-drop b o w at
+
+pub number-part : (b : List ℕ) (at n o w : ℕ) → o + w ≤ n → numberAt (bytesAt b at n) o w ≡ numberAt b (at + o) w
+unfolding numberAt
+number-part b at n o w h = ap numberOf (part-part b at n o w h)
+
+pub part-append : (xs ys : List ℕ) (o w : ℕ) → o + w ≤ length xs → bytesAt (xs ++ ys) o w ≡ bytesAt xs o w
+part-append xs ys o w h = rw (drop-append-le o xs ys (omega arith)) (take-append-le w (drop o xs) ys (rw length-drop (omega arith)))
 
 -- the figures of a record stand at 64, 72, 80 and 88
 pub line-figures : (r : List ℕ) → lineOf r .figures ≡ numberAt r 64 8 ∷ numberAt r 72 8 ∷ numberAt r 80 8 ∷ numberAt r 88 8 ∷ []
@@ -40,9 +47,11 @@ line-figures r = simp (drop-drop, numberAt-drop)
 
 -- ── numbers
 
-number-back : (w x : ℕ) (r : List ℕ) → x < 256 ^ w → numberAt (bytesOf w x ++ r) 0 w ≡ x
+-- a number of w bytes, behind p and before q
+pub number-behind : (p q : List ℕ) (at w x : ℕ) → length p ≡ at → x < 256 ^ w → numberAt (p ++ (bytesOf w x ++ q)) at w ≡ x
 unfolding numberAt
-number-back w x r h = rw (take-at (bytesOf w x) r w (length-bytesOf w x), numberOf-bytesOf) (mod-eq-of-lt h)
+number-behind p q at w x h f =
+    rw (drop-at p (bytesOf w x ++ q) at h, take-at (bytesOf w x) q w (length-bytesOf w x), numberOf-bytesOf) (mod-eq-of-lt f)
 
 -- figures that 8 bytes hold
 abbrev pub Fit : List ℕ → Type 0
@@ -53,7 +62,7 @@ figures-back : (xs r : List ℕ) → Fit xs → figuresIn (length xs) (figureByt
 unfolding figureBytes figuresIn
 figures-back [] r f = refl
 figures-back (x ∷ xs) r f =
-    rw (append-assoc (bytesOf 8 x) (figureBytes xs) r, number-back 8 x (figureBytes xs ++ r) (f .0), drop-at (bytesOf 8 x) (figureBytes xs ++ r) 8 (length-bytesOf 8 x), figures-back xs r (f .1))
+    rw (append-assoc (bytesOf 8 x) (figureBytes xs) r, number-behind [] (figureBytes xs ++ r) 0 8 x refl (f .0), drop-at (bytesOf 8 x) (figureBytes xs ++ r) 8 (length-bytesOf 8 x), figures-back xs r (f .1))
 
 -- ── lines
 
@@ -104,7 +113,7 @@ firstLines-records [] r g = refl
 firstLines-records (l ∷ ls) r g =
     rw (append-assoc (recordOf l) (records ls) r, take-at (recordOf l) (records ls ++ r) recordSize (length-recordOf l (g .0 .sized)), drop-at (recordOf l) (records ls ++ r) recordSize (length-recordOf l (g .0 .sized)), line-record l (g .0), firstLines-records ls r (g .1))
 
-pub record-at : (ls : List Line) (r : List ℕ) (k : ℕ) → AllStorable ls → k < length ls → bytesAt (records ls ++ r) (recordSize * k) recordSize ≡ recordOf (getD ls k noLine)
+pub record-at : (ls : List Line) (r : List ℕ) (k : ℕ) → AllStorable ls → k < length ls → recordAt recordSize (records ls ++ r) k ≡ recordOf (getD ls k noLine)
 unfolding records
 record-at [] r k g h = absurd (not-suc-le-zero h)
 record-at (l ∷ ls) r zero g h =

@@ -1,20 +1,21 @@
--- Laws of the same filing: by two numbers, `same-numbers`; by the fields that agree, `same-filing-fields`. Whether it is held, record by record: `held-step`, `held-none`.
+-- Laws of the same filing: by two numbers, `same-numbers`; by the fields that agree, `same-filing-fields`.
 use mathlib.Core.Path.{_≡_, refl, _∙_}
-use mathlib.Core.Bool.{Bool, true, false, _&&_, _||_}
+use mathlib.Core.Bool.{Bool, true, false, _&&_, and-comm, and-assoc}
 use mathlib.Core.List.{List, [], _∷_}
-use Prim.Native.Nat.{ℕ, zero, suc, _+_, _*_, _-_, _≤_, _<_}
+use Prim.Native.Nat.{ℕ, zero, suc, _+_, _*_, _≤_, _<_}
 use native.Mathlib.Nat.{add-zero}
 use native.Mathlib.Omega.{arith}
 use borrow.Author.Tests.{eq-eqb, ne-eqb, eqb-true, eqb-false}
 use lib.Dec.{eqb}
-use lib.ListN.{length, take, drop, length-drop}
+use lib.ListN.{length, getD, take, drop, length-drop}
 use lib.Seq.{getD-drop}
 use Rattle.binary64.specs.Bytes.{AreBytes, numberOf, numberAt}
 use Rattle.scenario.specs.Case.{kindOf, rowOf, routeOf, userOf, dossierOf}
-use Rattle.records.specs.Layout.{lineOf, recordSize, bytesAt}
-use Rattle.records.specs.Lines.{sameBytes, sameFiling, held}
-use Rattle.records.proofs.RecordLaws.{part-take, part-drop}
-use Rattle.records.proofs.LinesFrom.{from, from-end, lineAt, from-cons}
+use Rattle.records.specs.Layout.{noLine, caseSize, bytesAt, recordAt, lineOf, firstLines}
+use Rattle.records.specs.Lines.{sameBytes, sameFiling}
+use Rattle.records.proofs.RecordLaws.{part-take, part-part}
+use Rattle.records.proofs.Writing.{first-four}
+use Rattle.records.proofs.LinesFrom.{record-inside, line-at}
 
 -- ── equal numbers are equal bytes
 
@@ -39,56 +40,28 @@ unfolding numberAt
 same-part b c i j k bb bc hb hc =
     same-front k (drop i b) (drop j c) (λ n. rw getD-drop (bb (i + n))) (λ n. rw getD-drop (bc (j + n))) (rw length-drop (omega arith)) (rw length-drop (omega arith))
 
--- ── held
+-- ── of record k of n records, each as long as the width w
 
-case-part : (b : List ℕ) (k i n : ℕ) → i + n ≤ 64 → bytesAt (lineAt b k .case) i n ≡ bytesAt b (recordSize * k + i) n
-unfolding lineAt lineOf
-case-part b k i n h =
-    part-take (take recordSize (drop (recordSize * k) b)) i n 64 h ∙ part-take (drop (recordSize * k) b) i n recordSize (omega arith) ∙ part-drop b i n (recordSize * k)
+case-part : (w k i n : ℕ) (b : List ℕ) → caseSize ≤ w → i + n ≤ caseSize → bytesAt (lineOf (recordAt w b k) .case) i n ≡ bytesAt b (w * k + i) n
+unfolding lineOf
+case-part w k i n b d h = part-take (recordAt w b k) i n caseSize h ∙ part-part b (w * k) w i n (omega arith)
 
-both-ways : (a b : Bool) → (a && b) ≡ (b && a)
-both-ways true true = refl
-both-ways true false = refl
-both-ways false true = refl
-both-ways false false = refl
-
--- of two numbers read from record k and two of the case
-pub same-numbers : (b c : List ℕ) (k : ℕ) {x y h d : ℕ} → AreBytes b → AreBytes c → recordSize * k + recordSize ≤ length b → length c ≡ 64
-    → x ≡ numberAt b (recordSize * k) 4 → h ≡ numberAt c 0 4 → y ≡ numberAt b (recordSize * k + 8) 8 → d ≡ numberAt c 8 8
-    → (eqb y d && eqb x h) ≡ sameFiling (lineAt b k .case) c
+-- by two numbers read from it and two of the case
+pub same-numbers : (w n k : ℕ) (b c : List ℕ) {x y h d : ℕ} → AreBytes b → AreBytes c → caseSize ≤ w → k < n → w * n ≤ length b → length c ≡ caseSize
+    → x ≡ numberAt b (w * k) 4 → h ≡ numberAt c 0 4 → y ≡ numberAt b (w * k + 8) 8 → d ≡ numberAt c 8 8
+    → (eqb y d && eqb x h) ≡ sameFiling (getD (firstLines w n b) k noLine .case) c
 unfolding sameFiling
-same-numbers b c k {x = x₀} {y = y₀} {h = h₀} {d = d₀} bb bc hb hc x h y d =
-    both-ways (eqb y₀ d₀) (eqb x₀ h₀) ∙ rw (case-part b k 0 4 (omega arith), case-part b k 8 8 (omega arith), add-zero, x, h, y, d, same-part b c (recordSize * k) 0 4 bb bc (omega arith) (omega arith), same-part b c (recordSize * k + 8) 8 8 bb bc (omega arith) (omega arith))
-
-pub held-step : (b c : List ℕ) (n k : ℕ) → k < n → held (from b n k) c ≡ (sameFiling (lineAt b k .case) c || held (from b n (k + 1)) c)
-unfolding held
-held-step b c n k h = rw (from-cons b n k h)
-
-pub held-none : (b c : List ℕ) (n k : ℕ) → n ≤ k → held (from b n k) c ≡ false
-unfolding held
-held-none b c n k h = rw (from-end b n k h)
+same-numbers w n k b c {x = x₀} {y = y₀} {h = h₀} {d = d₀} bb bc hw hk hb hc x h y d =
+    let i = record-inside w n k hk in
+    and-comm (eqb y₀ d₀) (eqb x₀ h₀)
+    ∙ rw (line-at w n k b hk, case-part w k 0 4 b hw (omega arith), case-part w k 8 8 b hw (omega arith), add-zero, x, h, y, d, same-part b c (w * k) 0 4 bb bc (omega arith) (omega arith), same-part b c (w * k + 8) 8 8 bb bc (omega arith) (omega arith))
 
 -- ── the same filing in the fields of a case
-
-regroup : (p q r s t : Bool) → ((p && (q && (r && (s && true)))) && t) ≡ (p && (q && (r && (s && t))))
-regroup false q r s t = refl
-regroup true false r s t = refl
-regroup true true false s t = refl
-regroup true true true false t = refl
-regroup true true true true t = refl
 
 -- the fields on which two cases agree that are the same filing: kind, row, route, user, dossier number, and no other
 pub same-filing-fields : (c d : List ℕ) → AreBytes c → AreBytes d → length c ≡ 64 → length d ≡ 64
     → sameFiling c d ≡ (eqb (kindOf c) (kindOf d) && (eqb (rowOf c) (rowOf d) && (eqb (routeOf c) (routeOf d) && (eqb (userOf c) (userOf d) && eqb (dossierOf c) (dossierOf d)))))
 unfolding sameFiling
-same-filing-fields [] d bc bd hc hd = absurd (omega arith)
-same-filing-fields (c₀ ∷ []) d bc bd hc hd = absurd (omega arith)
-same-filing-fields (c₀ ∷ c₁ ∷ []) d bc bd hc hd = absurd (omega arith)
-same-filing-fields (c₀ ∷ c₁ ∷ c₂ ∷ []) d bc bd hc hd = absurd (omega arith)
-same-filing-fields (c₀ ∷ c₁ ∷ c₂ ∷ c₃ ∷ c) [] bc bd hc hd = absurd (omega arith)
-same-filing-fields (c₀ ∷ c₁ ∷ c₂ ∷ c₃ ∷ c) (d₀ ∷ []) bc bd hc hd = absurd (omega arith)
-same-filing-fields (c₀ ∷ c₁ ∷ c₂ ∷ c₃ ∷ c) (d₀ ∷ d₁ ∷ []) bc bd hc hd = absurd (omega arith)
-same-filing-fields (c₀ ∷ c₁ ∷ c₂ ∷ c₃ ∷ c) (d₀ ∷ d₁ ∷ d₂ ∷ []) bc bd hc hd = absurd (omega arith)
-same-filing-fields (c₀ ∷ c₁ ∷ c₂ ∷ c₃ ∷ c) (d₀ ∷ d₁ ∷ d₂ ∷ d₃ ∷ d) bc bd hc hd =
-    rw (same-part (c₀ ∷ c₁ ∷ c₂ ∷ c₃ ∷ c) (d₀ ∷ d₁ ∷ d₂ ∷ d₃ ∷ d) 8 8 8 bc bd (omega arith) (omega arith))
-    (regroup (eqb c₀ d₀) (eqb c₁ d₁) (eqb c₂ d₂) (eqb c₃ d₃) (sameBytes (bytesAt (c₀ ∷ c₁ ∷ c₂ ∷ c₃ ∷ c) 8 8) (bytesAt (d₀ ∷ d₁ ∷ d₂ ∷ d₃ ∷ d) 8 8)))
+same-filing-fields c d bc bd hc hd =
+    rw (first-four c (omega arith), first-four d (omega arith), same-part c d 8 8 8 bc bd (omega arith) (omega arith))
+    (simp and-assoc)

@@ -1,19 +1,18 @@
 -- What it is that refusal 21 does not hold, as facts on numbers: `Sound`, `sound-facts`, `not-broken`.
--- A trailer of n that stands in a buffer, read back: `TrailerRead`, `trailer-read`, `trailer-sound`.
+-- A trailer that stands in a buffer, read back: `TrailerRead`, `trailer-read`, `trailer-sound`.
 use mathlib.Core.Path.{_≡_, ap, _∙_}
 use mathlib.Core.Bool.{false}
 use mathlib.Core.List.{List, _++_, append-assoc}
 use Prim.Native.Nat.{ℕ, _+_, _-_, _*_, _^_, _≤_, _<_}
-use native.Mathlib.Nat.{mod-eq-of-lt}
 use native.Mathlib.Omega.{arith}
 use borrow.Author.Tests.{le-ltb, eq-eqb, ltb-false, eqb-true, not-false}
 use lib.ListN.{length, length-append}
-use lib.Seq.{take-at, drop-at}
 use Rattle.binary64.specs.Bytes.{bytesOf, numberAt}
-use Rattle.binary64.proofs.Numbers.{length-bytesOf, numberOf-bytesOf}
+use Rattle.binary64.proofs.Numbers.{length-bytesOf}
 use Rattle.binary64.proofs.Bools.{neither}
 use Rattle.records.specs.Layout.{trailer, trailerSize, usedLength, mostRecords, recordSize, edition}
 use Rattle.records.specs.Buffer.{distanceAt, countAt, editionAt, broken}
+use Rattle.records.proofs.RecordLaws.{number-behind}
 
 pub record Sound (b : List ℕ) (u : ℕ) : Type 0 where
   pub inside : u ≤ length b
@@ -45,38 +44,31 @@ unfolding broken
 not-broken b u s =
     rw (le-ltb _ _ (s .inside), le-ltb _ _ (s .at-least), le-ltb _ _ (s .few), eq-eqb _ _ (s .length-is), eq-eqb _ _ (s .distance-is), eq-eqb _ _ (s .edition-is))
 
--- ── a trailer read back
+-- ── a trailer read back, of n records of any width w and edition e
 
--- a number of k bytes, behind p and before q
-number-behind : (p q : List ℕ) (at k x : ℕ) → length p ≡ at → x < 256 ^ k → numberAt (p ++ (bytesOf k x ++ q)) at k ≡ x
-unfolding numberAt
-number-behind p q at k x h f =
-    rw (drop-at p (bytesOf k x ++ q) at h, take-at (bytesOf k x) q k (length-bytesOf k x), numberOf-bytesOf) (mod-eq-of-lt f)
-
-pub record TrailerRead (b : List ℕ) (u n : ℕ) : Type 0 where
-  pub distance-is : distanceAt b u ≡ recordSize * n
+pub record TrailerRead (b : List ℕ) (u w e n : ℕ) : Type 0 where
+  pub distance-is : distanceAt b u ≡ w * n
   pub count-is : countAt b u ≡ n
-  pub edition-is : editionAt b u ≡ edition
+  pub edition-is : editionAt b u ≡ e
 
 -- behind p, before q
-pub trailer-read : {b : List ℕ} {u n : ℕ} (p q : List ℕ) → b ≡ p ++ (trailer recordSize edition n ++ q) → length p + trailerSize ≡ u → n ≤ mostRecords → TrailerRead b u n
+pub trailer-read : {b : List ℕ} {u w e n : ℕ} (p q : List ℕ) → b ≡ p ++ (trailer w e n ++ q) → length p + trailerSize ≡ u → w * n < 2 ^ 64 → n < 2 ^ 32 → e < 2 ^ 32 → TrailerRead b u w e n
 unfolding trailer
-trailer-read {b} {u} {n} p q e l few =
-    let D = bytesOf 8 (recordSize * n) in
+trailer-read {b} {u} {w} {e} {n} p q g l dw nw ew =
+    let D = bytesOf 8 (w * n) in
     let N = bytesOf 4 n in
-    let E = bytesOf 4 edition in
-    let d : b ≡ p ++ (D ++ (N ++ (E ++ q))) = e ∙ simp append-assoc in
-    let c : b ≡ (p ++ D) ++ (N ++ (E ++ q)) = e ∙ simp append-assoc in
-    let f : b ≡ (p ++ (D ++ N)) ++ (E ++ q) = e ∙ simp append-assoc in
+    let E = bytesOf 4 e in
+    let d : b ≡ p ++ (D ++ (N ++ (E ++ q))) = g ∙ simp append-assoc in
+    let c : b ≡ (p ++ D) ++ (N ++ (E ++ q)) = g ∙ simp append-assoc in
+    let f : b ≡ (p ++ (D ++ N)) ++ (E ++ q) = g ∙ simp append-assoc in
     record {
-      distance-is = ap (λ (r : List ℕ). numberAt r (u - 16) 8) d ∙ number-behind p (N ++ (E ++ q)) (u - 16) 8 (recordSize * n) (omega (arith, l)) (omega (arith, few));
-      count-is = ap (λ (r : List ℕ). numberAt r (u - 8) 4) c
-          ∙ number-behind (p ++ D) (E ++ q) (u - 8) 4 n (omega (arith, l, length-append p D, length-bytesOf 8 (recordSize * n))) (omega (arith, few));
+      distance-is = ap (λ (r : List ℕ). numberAt r (u - 16) 8) d ∙ number-behind p (N ++ (E ++ q)) (u - 16) 8 (w * n) (omega (arith, l)) dw;
+      count-is = ap (λ (r : List ℕ). numberAt r (u - 8) 4) c ∙ number-behind (p ++ D) (E ++ q) (u - 8) 4 n (omega (arith, l, length-append p D, length-bytesOf 8 (w * n))) nw;
       edition-is = ap (λ (r : List ℕ). numberAt r (u - 4) 4) f
-          ∙ number-behind (p ++ (D ++ N)) q (u - 4) 4 edition (omega (arith, l, length-append p (D ++ N), length-append D N, length-bytesOf 8 (recordSize * n), length-bytesOf 4 n)) (omega arith);
+          ∙ number-behind (p ++ (D ++ N)) q (u - 4) 4 e (omega (arith, l, length-append p (D ++ N), length-append D N, length-bytesOf 8 (w * n), length-bytesOf 4 n)) ew;
     }
 
-pub trailer-sound : {b : List ℕ} {u n : ℕ} → TrailerRead b u n → u ≡ usedLength recordSize n → u ≤ length b → n ≤ mostRecords → broken b u ≡ false
+pub trailer-sound : {b : List ℕ} {u n : ℕ} → TrailerRead b u recordSize edition n → u ≡ usedLength recordSize n → u ≤ length b → n ≤ mostRecords → broken b u ≡ false
 trailer-sound {b} {u} t l i few =
     let c = t .count-is in
     not-broken b u (record {

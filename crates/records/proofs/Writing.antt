@@ -1,28 +1,28 @@
 -- Laws of what is written to the archive: one write behind another, up to a record with its trailer.
 -- Writes: `behind` (one right behind another), `figures-written`, `trailer-written`, `line-written`.
--- An array of four: `four-of`. Lengths: `length-figureBytes`, `length-trailer`.
+-- Four elements: `first-four`. Lengths: `length-figureBytes`, `length-trailer`.
 -- What is read back is in `RecordLaws` and `Trailer`.
 use mathlib.Core.Path.{_≡_, refl, sym, ap, _∙_}
 use mathlib.Core.List.{List, [], _∷_, _++_, append-assoc, append-nil}
 use Prim.Native.Nat.{ℕ, _+_, _*_, _≤_}
 use native.Mathlib.Nat.{mul-suc}
 use native.Mathlib.Omega.{arith}
-use lib.ListN.{length, getD, length-append}
+use lib.ListN.{length, getD, take, length-append}
+use lib.Seq.{take-all}
 use Rattle.binary64.specs.Bytes.{bytesOf, splice}
 use Rattle.binary64.proofs.Numbers.{length-bytesOf}
 use Rattle.binary64.proofs.Splice.{splice-join}
 use Rattle.records.specs.Layout.{figureBytes, recordOf, trailer, recordSize, edition}
 use Rattle.records.specs.Buffer.{written}
 
--- ── an array of four, by its elements
+-- ── four elements
 
-four-of : (l : List ℕ) → length l ≡ 4 → l ≡ getD l 0 0 ∷ getD l 1 0 ∷ getD l 2 0 ∷ getD l 3 0 ∷ []
-four-of [] e = absurd (omega (arith, e))
-four-of (w ∷ []) e = absurd (omega (arith, e))
-four-of (w ∷ x ∷ []) e = absurd (omega (arith, e))
-four-of (w ∷ x ∷ y ∷ []) e = absurd (omega (arith, e))
-four-of (w ∷ x ∷ y ∷ z ∷ []) e = refl
-four-of (w ∷ x ∷ y ∷ z ∷ v ∷ l) e = absurd (omega (arith, e))
+pub first-four : (l : List ℕ) → 4 ≤ length l → take 4 l ≡ getD l 0 0 ∷ getD l 1 0 ∷ getD l 2 0 ∷ getD l 3 0 ∷ []
+first-four [] h = absurd (omega arith)
+first-four (w ∷ []) h = absurd (omega arith)
+first-four (w ∷ x ∷ []) h = absurd (omega arith)
+first-four (w ∷ x ∷ y ∷ []) h = absurd (omega arith)
+first-four (w ∷ x ∷ y ∷ z ∷ l) h = refl
 
 -- ── lengths
 
@@ -61,7 +61,7 @@ figures-written a at f l h p q r s =
     let r′ = behind a at 16 (W ++ X) Y q′ r (rw (length-append, w, x)) (omega arith) in
     let s′ = behind a at 24 (W ++ X ++ Y) Z r′ s (rw (length-append, length-append, w, x, y)) (omega arith) in
     let g : W ++ X ++ Y ++ Z ≡ figureBytes (getD f 0 0 ∷ getD f 1 0 ∷ getD f 2 0 ∷ getD f 3 0 ∷ []) = simp (append-assoc, append-nil) in
-    s′ ∙ ap (splice a at) (g ∙ ap figureBytes (sym (four-of f l)))
+    s′ ∙ ap (splice a at) (g ∙ ap figureBytes (sym (first-four f (omega arith)) ∙ take-all 4 f (omega arith)))
 
 pub trailer-written : (a : List ℕ) {b c d : List ℕ} (at n : ℕ) → at + 16 ≤ length a
     → b ≡ splice a at (bytesOf 8 (recordSize * n)) → c ≡ splice b (at + 8) (bytesOf 4 n) → d ≡ splice c (at + 12) (bytesOf 4 edition)

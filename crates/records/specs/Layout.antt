@@ -54,6 +54,10 @@ usedLength width n = width * n + trailerSize
 abbrev pub mostRecords : ℕ
 mostRecords = 1000000
 
+-- where a record's figures end
+abbrev pub figuresEnd : ℕ
+figuresEnd = 96
+
 -- the size of a record, and the edition, the paper's term
 abbrev pub recordSize : ℕ
 recordSize = 96
@@ -66,6 +70,10 @@ edition = 1
 -- the n bytes from offset at on
 abbrev pub bytesAt : List ℕ → ℕ → ℕ → List ℕ
 bytesAt b at n = take n (drop at b)
+
+-- record k of those in a buffer, each as long as the width
+abbrev pub recordAt : ℕ → List ℕ → ℕ → List ℕ
+recordAt width b k = bytesAt b (width * k) width
 
 -- the first k figures that bytes hold
 unfoldable pub figuresIn : ℕ → List ℕ → List ℕ

@@ -3,7 +3,7 @@
 use mathlib.Core.Path.{_≡_}
 use mathlib.Core.Bool.{Bool, true, false, _&&_, _||_, cond}
 use mathlib.Core.List.{List, [], _∷_}
-use Prim.Native.Nat.{ℕ, suc, _-_, _≤_, _<_, max}
+use Prim.Native.Nat.{ℕ, zero, suc, _-_, _≤_, _<_}
 use lib.Dec.{ltb, eqb}
 use lib.ListN.{length, getD}
 use Rattle.records.specs.Layout.{Line, noLine, bytesAt}
@@ -38,26 +38,25 @@ pub record IsHeld (ls : List Line) (c : List ℕ) : Type 0 where
 unfoldable pub figure : ℕ → Line → ℕ
 figure m l = getD (l .figures) (m - 1) 0
 
--- the highest figure in compartment m, and the number of the first line that has the figure x
-unfoldable pub highest : ℕ → List Line → ℕ
-highest m [] = 0
-highest m (l ∷ ls) = max (figure m l) (highest m ls)
+-- that of the line with number k
+abbrev pub figureOf : ℕ → List Line → ℕ → ℕ
+figureOf m ls k = figure m (getD ls k noLine)
 
-unfoldable pub firstWith : ℕ → ℕ → List Line → ℕ
-firstWith m x [] = 0
-firstWith m x (l ∷ ls) = cond (eqb (figure m l) x) 0 (suc (firstWith m x ls))
+-- Of any figures f by number: whether number j outranks number k, which is that its figure is the higher one.
+abbrev pub outranks : (ℕ → ℕ) → ℕ → ℕ → Bool
+outranks f j k = ltb (f k) (f j)
 
--- the number of the first line whose figure is above x, and how many lines there are where none is
-unfoldable pub firstAbove : ℕ → ℕ → List Line → ℕ
-firstAbove m x [] = 0
-firstAbove m x (l ∷ ls) = cond (ltb x (figure m l)) 0 (suc (firstAbove m x ls))
+-- the worst of the first n numbers by an order: the last of them where it outranks the worst before it
+unfoldable pub worstBy : (ℕ → ℕ → Bool) → ℕ → ℕ
+worstBy order zero = 0
+worstBy order (suc k) = let w = worstBy order k in cond (order k w) k w
 
 -- the worst line: of those that have the highest figure, the one with the lowest number
 unfoldable pub worstOf : ℕ → List Line → ℕ
-worstOf m ls = firstWith m (highest m ls) ls
+worstOf m ls = worstBy (outranks (figureOf m ls)) (length ls)
 
 -- What it is to be the worst line: none is higher, and none earlier is as high. `worst-is-highest` says that worstOf names it, `worst-is-unique` that nothing else is it.
 pub record IsWorst (m : ℕ) (ls : List Line) (k : ℕ) : Type 0 where
   pub there : k < length ls
-  pub none-higher : (j : ℕ) → j < length ls → figure m (getD ls j noLine) ≤ figure m (getD ls k noLine)
-  pub none-earlier-as-high : (j : ℕ) → j < k → figure m (getD ls j noLine) < figure m (getD ls k noLine)
+  pub none-higher : (j : ℕ) → j < length ls → figureOf m ls j ≤ figureOf m ls k
+  pub none-earlier-as-high : (j : ℕ) → j < k → figureOf m ls j < figureOf m ls k

@@ -3,7 +3,7 @@ ghost use mathlib.Core.Path.{_≡_};
 ghost use Prim.Native.Nat.{_+_, _*_, _≤_, _<_};
 ghost use lib.ListN.{length};
 ghost use Rattle.binary64.specs.Bytes.{splice};
-ghost use Rattle.records.specs.Layout.{figureBytes, trailer, lineOf, usedLength, mostRecords, recordSize, edition};
+ghost use Rattle.records.specs.Layout.{figureBytes, trailer, lineOf, usedLength, mostRecords, figuresEnd, recordSize, edition};
 ghost use Rattle.records.specs.Buffer.{countAt, broken, written};
 use binary64::bytes::put_bytes;
 use binary64::bytes::put_u32;
@@ -83,7 +83,7 @@ pub fn put_line(b: &mut [u8], n: usize, case: &[u8], figures: [u64; 4])
 
 // The figures of a record.
 pub fn figures_at(bytes: &[u8]) -> [u64; 4]
-    requires { ⌜ recordSize ≤ length (now bytes) ⌝ }
+    requires { ⌜ figuresEnd ≤ length (now bytes) ⌝ }
     ensures { λ r. ⌜ r ≡ lineOf (now (bytes .entry)) .figures ⌝ }
 {
     [

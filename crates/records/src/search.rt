@@ -1,9 +1,9 @@
 // Searches over the records. Each record is touched once, with one load for each field that is compared.
 ghost use mathlib.Core.Path.{_≡_};
-ghost use Prim.Native.Nat.{_+_, _-_, _*_, _≤_, _<_};
-ghost use lib.ListN.{length, drop};
-ghost use Rattle.records.specs.Layout.{firstLines, recordSize};
-ghost use Rattle.records.specs.Lines.{held, firstAbove, worstOf};
+ghost use Prim.Native.Nat.{_*_, _≤_};
+ghost use lib.ListN.{length};
+ghost use Rattle.records.specs.Layout.{firstLines, figuresEnd, recordSize};
+ghost use Rattle.records.specs.Lines.{held, worstOf};
 use crate::RECORD_SIZE;
 use binary64::bytes::u32_at;
 use binary64::bytes::u64_at;
@@ -26,39 +26,30 @@ pub fn is_held(archive: &[u8], n: usize, case: &[u8]) -> bool
     false
 }
 
-// The first of n records, from record k on, whose figure is above `top`; n where none is.
-fn next_above(archive: &[u8], n: usize, compartment: usize, k: usize, top: u64) -> usize
-    requires { ⌜ (recordSize * n ≤ length (now archive)) × (1 ≤ compartment) × (compartment ≤ 4) × (k ≤ n) ⌝ }
-    ensures { λ r. ⌜ r ≡ k + firstAbove compartment top (firstLines recordSize (n - k) (drop (recordSize * k) (now (archive .entry)))) ⌝ }
-{
-    let place = 56 + 8 * compartment;
-    let mut i = k;
-    while i < n {
-        if top < u64_at(archive, RECORD_SIZE * i + place) {
-            return i;
-        }
-        i += 1;
-    }
-    i
-}
-
 // The number of the first of n records whose figure is the highest: from each record that is above all before it to the next.
-pub fn worst_of(archive: &[u8], n: usize, compartment: usize) -> usize
-    requires { ⌜ (recordSize * n ≤ length (now archive)) × (1 ≤ compartment) × (compartment ≤ 4) ⌝ }
-    ensures { λ r. ⌜ r ≡ worstOf compartment (firstLines recordSize n (now (archive .entry))) ⌝ }
+pub fn worst_of(archive: &[u8], width: usize, n: usize, compartment: usize) -> usize
+    requires { ⌜ (width * n ≤ length (now archive)) × (figuresEnd ≤ width) × (1 ≤ compartment) × (compartment ≤ 4) ⌝ }
+    ensures { λ r. ⌜ r ≡ worstOf compartment (firstLines width n (now (archive .entry))) ⌝ }
 {
+    if n == 0 {
+        return 0;
+    }
     let place = 56 + 8 * compartment;
-    let mut k: usize = 0;
     let mut best: usize = 0;
-    let mut top: u64 = 0;
+    let mut top = u64_at(archive, place);
+    let mut k: usize = 1;
     while k < n {
-        let number = next_above(archive, n, compartment, k, top);
-        if number == n {
-            return best;
+        let mut x = u64_at(archive, width * k + place);
+        while x <= top {
+            k += 1;
+            if k == n {
+                return best;
+            }
+            x = u64_at(archive, width * k + place);
         }
-        top = u64_at(archive, RECORD_SIZE * number + place);
-        best = number;
-        k = number + 1;
+        best = k;
+        top = x;
+        k += 1;
     }
     best
 }

@@ -51,5 +51,5 @@ worst-spec =
     let d = c .before .before in
     let s = sound-facts _ _ (sym (d .before .is-broken .ensures) ∙ d .if2 .left) in
     let m = compartment-within _ (d .before .before .if1 .left) in
-    (omega (arith, c .before .count-at .ensures, s .length-is, s .inside), m .0, m .1))
+    (omega (arith, c .before .count-at .ensures, s .length-is, s .inside), omega arith, m .0, m .1))
     returns-4)

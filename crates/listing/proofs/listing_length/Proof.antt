@@ -23,6 +23,6 @@ listing-length-spec =
     (λ c κs. search needs)
     (λ c. sym (length-refused _ (sym (c .before .is-refused .ensures) ∙ c .if1 .taken)))
     (λ c κs. (accepted-facts _ (accepted c) .at-least, omega arith))
-    (λ c κs. let f = accepted-facts _ (accepted (c .before)) in rw (c .count-at .ensures) (f .inside, f .few))
+    (λ c κs. let f = accepted-facts _ (accepted (c .before)) in rw (c .count-at .ensures) (f .inside, omega arith, f .few))
     (λ c. omega (arith, sum-is c, listing-at-most (c .before .before .before .before .before .args .archive .now) (λ i. c .before .before .before .before .shared-slice-known .given i .fits)))
     (λ c. sum-is c))

@@ -23,7 +23,7 @@ put-lines-requires c κs =
     let n = c .before .before .before .before .before .before in
     let e = accepted (n .before) in
     let f = accepted-facts _ e in
-    (omega (arith, n .count-at .ensures, f .inside), omega (arith, length-accepted _ e (n .count-at .ensures) refl, c .before .before .before .put-bytes2 .kept .0, n .before .before .before .before .before .pre))
+    (omega (arith, n .count-at .ensures, f .inside), omega arith, omega (arith, length-accepted _ e (n .count-at .ensures) refl, c .before .before .before .put-bytes2 .kept .0, n .before .before .before .before .before .pre))
 
 returns-2 : tie.Need-returns-2
 unfolding codes header
