@@ -6,6 +6,7 @@ use Rattle.records.specs.Layout.{usedLength, recordSize}
 use Rattle.records.specs.Lines.{worstOf}
 use Rattle.records.specs.Buffer.{countAt, linesIn}
 use Rattle.archive.specs.Conditions.{accepted}
+use Rattle.archive.specs.Offers.{Offer}
 use Rattle.archive.specs.Archive.{emptyRefusal, emptying, fileRefusal, filing, worstRefusal, naming}
 use Rattle.archive.specs.Answers.{emptied, filed, named, ofEmptied, ofFiling, ofHighest, emptyAnswer, fileAnswer, worstAnswer}
 use Rattle.archive.specs.declared.Emptied.the-variants.{Used, Refused}
@@ -32,9 +33,9 @@ pub of-emptying : (b : List ℕ) → ofEmptied (emptying b) ≡ emptyAnswer b
 unfolding emptying emptyAnswer
 of-emptying b = by-emptied (emptyRefusal b)
 
-pub of-filing : (b : List ℕ) (u : ℕ) (c : List ℕ) → ofFiling (filing b u c) u ≡ fileAnswer b u c
+pub of-filing : (b : List ℕ) (u : ℕ) (o : Offer) → ofFiling (filing b u o) u ≡ fileAnswer b u o
 unfolding filing fileAnswer
-of-filing b u c = by-filing (fileRefusal b u c) (countAt b u) (usedLength recordSize (countAt b u + 1)) u
+of-filing b u o = by-filing (fileRefusal b u o) (countAt b u) (usedLength recordSize (countAt b u + 1)) u
 
 pub of-naming : (b : List ℕ) (u m : ℕ) → ofHighest (naming b u m) ≡ worstAnswer b u m
 unfolding naming worstAnswer

@@ -18,6 +18,7 @@ use Rattle.records.specs.Buffer.{countAt, written}
 use Rattle.records.proofs.Writing.{length-trailer}
 use Rattle.records.proofs.RecordLaws.{Sized, length-recordOf, part-take, part-drop}
 use Rattle.records.proofs.FieldTable.{written-at, written-field}
+use Rattle.archive.specs.Offers.{Offer}
 use Rattle.archive.specs.Archive.{emptyRefusals, emptyRefusal, emptyBytes, fileRefusal, lineFor, fileBytes}
 use Rattle.archive.specs.Left.{LeftByEmpty, LeftByFile}
 use Rattle.archive.proofs.Cases.{case-size, sized-line}
@@ -53,60 +54,60 @@ module _ (b : List ℕ) (e : emptyRefusal b ≡ 0) where
 
 -- ── file
 
-module _ (b : List ℕ) (u : ℕ) (c : List ℕ) (e : fileRefusal b u c ≡ 0) where
+module _ (b : List ℕ) (u : ℕ) (o : Offer) (e : fileRefusal b u o ≡ 0) where
   abbrev n : ℕ
   n = countAt b u
 
   -- what is written
   abbrev vs : List ℕ
-  vs = recordOf (lineFor c) ++ trailer recordSize edition (n + 1)
+  vs = recordOf (lineFor o) ++ trailer recordSize edition (n + 1)
 
-  sized : Sized (lineFor c)
-  sized = sized-line c (free-facts b u c e .within-ranges)
+  sized : Sized (lineFor o)
+  sized = sized-line o (free-facts b u o e .within)
 
   length-vs : length vs ≡ 112
-  length-vs = length-append (recordOf (lineFor c)) (trailer recordSize edition (n + 1)) ∙ rw (length-recordOf (lineFor c) sized, length-trailer recordSize edition (n + 1))
+  length-vs = length-append (recordOf (lineFor o)) (trailer recordSize edition (n + 1)) ∙ rw (length-recordOf (lineFor o) sized, length-trailer recordSize edition (n + 1))
 
   fits : 96 * n + 112 ≤ length b
-  fits = let f = free-facts b u c e in omega (arith, f .sound .length-is, f .room)
+  fits = let f = free-facts b u o e in omega (arith, f .sound .length-is, f .room)
 
-  filed-before : (i : ℕ) → i < 96 * n → getD (fileBytes b u c) i 0 ≡ getD b i 0
+  filed-before : (i : ℕ) → i < 96 * n → getD (fileBytes b u o) i 0 ≡ getD b i 0
   unfolding fileBytes written
   filed-before i h = rw e (splice-before b _ _ (omega (arith, fits)) i (omega arith))
 
-  filed-behind : (i : ℕ) → 96 * n + 112 ≤ i → getD (fileBytes b u c) i 0 ≡ getD b i 0
+  filed-behind : (i : ℕ) → 96 * n + 112 ≤ i → getD (fileBytes b u o) i 0 ≡ getD b i 0
   unfolding fileBytes written
   filed-behind i h = rw e (splice-behind b _ _ (omega (arith, fits)) i (omega (arith, length-vs)))
 
-  filed-size : length (fileBytes b u c) ≡ length b
+  filed-size : length (fileBytes b u o) ≡ length b
   unfolding fileBytes written
   filed-size = rw e (length-splice b (96 * n) vs (omega (arith, length-vs, fits)))
 
-  filed-case : bytesAt (fileBytes b u c) (96 * n) 64 ≡ c
+  filed-case : bytesAt (fileBytes b u o) (96 * n) 64 ≡ o .case
   unfolding fileBytes
   filed-case =
-      let l = case-size c (free-facts b u c e .within-ranges) in
-      rw e (ap (λ (k : ℕ). bytesAt (written b n (lineFor c)) k 64) (sym (add-zero (96 * n))) ∙ written-at b n (lineFor c) 0 64 given sized (omega (arith, fits)) (omega arith) ∙ take-all 64 c (omega arith))
+      let l = case-size (o .case) (free-facts b u o e .within .case-within) in
+      rw e (ap (λ (k : ℕ). bytesAt (written b n (lineFor o)) k 64) (sym (add-zero (96 * n))) ∙ written-at b n (lineFor o) 0 64 given sized (omega (arith, fits)) (omega arith) ∙ take-all 64 (o .case) (omega arith))
 
-  filed-figures : (k : ℕ) → k < 4 → bytesAt (fileBytes b u c) (96 * n + 64 + 8 * k) 8 ≡ bytesOf 8 (getD (figuresOf c) k 0)
+  filed-figures : (k : ℕ) → k < 4 → bytesAt (fileBytes b u o) (96 * n + 64 + 8 * k) 8 ≡ bytesOf 8 (getD (figuresOf (o .case)) k 0)
   unfolding fileBytes
   filed-figures k h =
       let p : 96 * n + 64 + 8 * k ≡ 96 * n + (64 + 8 * k) = omega arith in
-      rw (e, p) (written-at b n (lineFor c) (64 + 8 * k) 8 (figureAt k) sized (omega (arith, fits)) (refl, refl, h))
+      rw (e, p) (written-at b n (lineFor o) (64 + 8 * k) 8 (figureAt k) sized (omega (arith, fits)) (refl, refl, h))
 
-  filed-trailer : bytesAt (fileBytes b u c) (96 * n + 96) 16 ≡ bytesOf 8 (96 * n + 96) ++ bytesOf 4 (n + 1) ++ bytesOf 4 1
+  filed-trailer : bytesAt (fileBytes b u o) (96 * n + 96) 16 ≡ bytesOf 8 (96 * n + 96) ++ bytesOf 4 (n + 1) ++ bytesOf 4 1
   unfolding fileBytes written trailer
   filed-trailer =
-      let r = recordOf (lineFor c) in
+      let r = recordOf (lineFor o) in
       let p : 96 * (n + 1) ≡ 96 * n + 96 = omega arith in
-      rw (e, part-read b (96 * n) vs 96 16 (omega (arith, fits)) (omega (arith, length-vs)), drop-at r (trailer recordSize edition (n + 1)) 96 (length-recordOf (lineFor c) sized), take-all 16 (trailer recordSize edition (n + 1)) (omega (arith, length-trailer recordSize edition (n + 1))), p)
+      rw (e, part-read b (96 * n) vs 96 16 (omega (arith, fits)) (omega (arith, length-vs)), drop-at r (trailer recordSize edition (n + 1)) 96 (length-recordOf (lineFor o) sized), take-all 16 (trailer recordSize edition (n + 1)) (omega (arith, length-trailer recordSize edition (n + 1))), p)
 
-  pub file-left : LeftByFile (countAt b u) c b (fileBytes b u c)
+  pub file-left : LeftByFile (countAt b u) o b (fileBytes b u o)
   file-left = record { size = filed-size; before = filed-before; case = filed-case; figures = filed-figures; trailer = filed-trailer; behind = filed-behind }
 
   -- each field of the table stands at its offset in the record that is written
   pub filed-field : (k : ℕ) → k < length fields
       → let f = getD fields k noField in
-      bytesAt (fileBytes b u c) (recordSize * countAt b u + f .offset) (f .width) ≡ fieldBytes (lineFor c) (f .offset) (f .width) (f .source)
+      bytesAt (fileBytes b u o) (recordSize * countAt b u + f .offset) (f .width) ≡ fieldBytes (lineFor o) (f .offset) (f .width) (f .source)
   unfolding fileBytes
-  filed-field k h = rw e (written-field b (countAt b u) (lineFor c) sized (omega (arith, fits)) k h)
+  filed-field k h = rw e (written-field b (countAt b u) (lineFor o) sized (omega (arith, fits)) k h)

@@ -15,6 +15,7 @@ use Rattle.binary64.proofs.Bools.{neither}
 use Rattle.scenario.proofs.Refusals.{first-of-append, first-of-some}
 use Rattle.archive.specs.Conditions.{accepted, full, notCompartment}
 use Rattle.records.specs.Layout.{mostRecords, recordSize}
+use Rattle.archive.specs.Offers.{Offer}
 use Rattle.archive.specs.Archive.{fromState, fileRefusals, fileRefusal}
 
 pub compartment-within : (m : ℕ) → notCompartment m ≡ false → (1 ≤ m) × (m ≤ 4)
@@ -67,11 +68,11 @@ pub behind-case : (c : List ℕ) (ds : List Condition) → firstOf (refusals c +
 unfolding refusalOf
 behind-case c ds = first-of-append (refusals c) ds refl
 
-pub file-refusal-is : (b : List ℕ) (u : ℕ) (c : List ℕ) → fileRefusal b u c ≡ orElse (refusalOf c) (firstOf (fromState b u c))
+pub file-refusal-is : (b : List ℕ) (u : ℕ) (o : Offer) → fileRefusal b u o ≡ orElse (refusalOf (o .case)) (firstOf (fromState b u o))
 unfolding fileRefusals
-file-refusal-is b u c = behind-case c (fromState b u c)
+file-refusal-is b u o = behind-case (o .case) (fromState b u o)
 
 -- a case's own refusal is file's
-pub case-refused : (b : List ℕ) (u : ℕ) (c : List ℕ) (r : ℕ) → r ≡ refusalOf c → (r ≡ 0 → ⊥) → r ≡ fileRefusal b u c
+pub case-refused : (b : List ℕ) (u : ℕ) (o : Offer) (r : ℕ) → r ≡ refusalOf (o .case) → (r ≡ 0 → ⊥) → r ≡ fileRefusal b u o
 unfolding fileRefusals refusalOf
-case-refused b u c r e h = first-of-some (refusals c) (fromState b u c) r refl e h
+case-refused b u o r e h = first-of-some (refusals (o .case)) (fromState b u o) r refl e h

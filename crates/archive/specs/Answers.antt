@@ -6,6 +6,7 @@ use Rattle.records.specs.Layout.{trailerSize, usedLength, recordSize}
 use Rattle.records.specs.Lines.{worstOf}
 use Rattle.records.specs.Buffer.{countAt, linesIn}
 use Rattle.archive.specs.Conditions.{accepted}
+use Rattle.archive.specs.Offers.{Offer}
 use Rattle.archive.specs.Archive.{emptyRefusal, fileRefusal, worstRefusal}
 use Rattle.archive.specs.declared.Emptied.{Emptied}
 use Rattle.archive.specs.declared.Emptied.the-variants.{Used, Refused}
@@ -41,9 +42,9 @@ ofHighest (NotNamed r) = named r 0
 unfoldable pub emptyAnswer : List ℕ → Answer
 emptyAnswer b = let r = emptyRefusal b in emptied r (accepted r trailerSize 0)
 
-unfoldable pub fileAnswer : List ℕ → ℕ → List ℕ → Answer
-fileAnswer b u c =
-    let r = fileRefusal b u c in
+unfoldable pub fileAnswer : List ℕ → ℕ → Offer → Answer
+fileAnswer b u o =
+    let r = fileRefusal b u o in
     let n = countAt b u in
     filed r (accepted r n 0) (accepted r (usedLength recordSize (n + 1)) u)
 

@@ -11,6 +11,7 @@ use Rattle.scenario.specs.Case.{refusals}
 use Rattle.emission.specs.Figures.{figuresOf}
 use Rattle.records.specs.Layout.{Line, trailer, lineOf, trailerSize, usedLength, recordSize, edition, bytesAt}
 use Rattle.archive.specs.Conditions.{accepted, full, notCompartment}
+use Rattle.archive.specs.Offers.{Offer, lineWith}
 use Rattle.records.specs.Lines.{held, worstOf}
 use Rattle.records.specs.Buffer.{countAt, broken, linesIn, written}
 use Rattle.archive.specs.declared.Emptied.{Emptied}
@@ -37,27 +38,27 @@ emptyBytes b = accepted (emptyRefusal b) (splice b 0 (trailer recordSize edition
 -- ── file
 
 -- from the state, behind the case's own
-abbrev pub fromState : List ℕ → ℕ → List ℕ → List Condition
-fromState b u c = (21 when broken b u) ∷ (22 when held (linesIn b u) c) ∷ (23 when full (length b) u (countAt b u)) ∷ []
+abbrev pub fromState : List ℕ → ℕ → Offer → List Condition
+fromState b u o = (21 when broken b u) ∷ (22 when held (linesIn b u) (o .case)) ∷ (23 when full (length b) u (countAt b u)) ∷ []
 
-unfoldable pub fileRefusals : List ℕ → ℕ → List ℕ → List Condition
-fileRefusals b u c = refusals c ++ fromState b u c
+unfoldable pub fileRefusals : List ℕ → ℕ → Offer → List Condition
+fileRefusals b u o = refusals (o .case) ++ fromState b u o
 
-abbrev pub fileRefusal : List ℕ → ℕ → List ℕ → ℕ
-fileRefusal b u c = firstOf (fileRefusals b u c)
+abbrev pub fileRefusal : List ℕ → ℕ → Offer → ℕ
+fileRefusal b u o = firstOf (fileRefusals b u o)
 
-unfoldable pub filing : List ℕ → ℕ → List ℕ → Filing
-filing b u c =
-    accepted (fileRefusal b u c)
+unfoldable pub filing : List ℕ → ℕ → Offer → Filing
+filing b u o =
+    accepted (fileRefusal b u o)
     (Filed (countAt b u) (usedLength recordSize (countAt b u + 1)))
-    (NotFiled (fileRefusal b u c))
+    (NotFiled (fileRefusal b u o))
 
--- the line of a case
-abbrev pub lineFor : List ℕ → Line
-lineFor c = record { case = c; figures = figuresOf c }
+-- the line of what is offered: the case with its figures
+abbrev pub lineFor : Offer → Line
+lineFor o = lineWith o (figuresOf (o .case))
 
-unfoldable pub fileBytes : List ℕ → ℕ → List ℕ → List ℕ
-fileBytes b u c = accepted (fileRefusal b u c) (written b (countAt b u) (lineFor c)) b
+unfoldable pub fileBytes : List ℕ → ℕ → Offer → List ℕ
+fileBytes b u o = accepted (fileRefusal b u o) (written b (countAt b u) (lineFor o)) b
 
 -- ── show
 

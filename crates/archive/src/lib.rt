@@ -2,6 +2,7 @@
 // specs/ says when each refusal holds, what each call answers, and which bytes it leaves.
 ghost use mathlib.Core.Path.{_≡_};
 ghost use Rattle.scenario.specs.Case.{refusalOf};
+ghost use Rattle.archive.specs.Offers.{offer};
 ghost use Rattle.archive.specs.Archive.{emptying, emptyBytes, filing, fileBytes, fileRefusal, showRefusal, showPart, naming, isRecord, recordFigures};
 ghost use Rattle.archive.specs.Answers.{ofEmptied, ofFiling, ofHighest, emptyAnswer, fileAnswer, worstAnswer};
 use emission::work_out;
@@ -36,7 +37,7 @@ pub fn empty(archive: &mut [u8]) -> Emptied
 // File's refusal, 0 for none, where the case's own refusal is known.
 fn file_refusal(archive: &[u8], used: u64, case: &[u8], refusal: u32) -> u32
     requires { ⌜ refusal ≡ refusalOf (now case) ⌝ }
-    ensures { λ r. ⌜ r ≡ fileRefusal (now (archive .entry)) used (now (case .entry)) ⌝ }
+    ensures { λ r. ⌜ r ≡ fileRefusal (now (archive .entry)) used (offer (now (case .entry))) ⌝ }
 {
     if refusal != 0 {
         return refusal;
@@ -60,7 +61,7 @@ fn file_refusal(archive: &[u8], used: u64, case: &[u8], refusal: u32) -> u32
 
 // Works the case out and files it with its figures.
 pub fn file(archive: &mut [u8], used: u64, case: &[u8]) -> Filing
-    ensures { λ r. ⌜ (r ≡ filing (now (archive .entry)) used (now (case .entry))) × (now (archive .exit) ≡ fileBytes (now (archive .entry)) used (now (case .entry))) × (ofFiling r used ≡ fileAnswer (now (archive .entry)) used (now (case .entry))) ⌝ }
+    ensures { λ r. ⌜ (r ≡ filing (now (archive .entry)) used (offer (now (case .entry)))) × (now (archive .exit) ≡ fileBytes (now (archive .entry)) used (offer (now (case .entry)))) × (ofFiling r used ≡ fileAnswer (now (archive .entry)) used (offer (now (case .entry)))) ⌝ }
 {
     let worked = work_out(case);
     let refusal = file_refusal(archive, used, case, worked.refusal);

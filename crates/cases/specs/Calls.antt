@@ -9,6 +9,7 @@ use Rattle.listing.specs.Listing.{codes}
 use Rattle.scenario.specs.Builder.{caseBytes}
 use Rattle.records.specs.Layout.{Line, lineOf}
 use Rattle.records.specs.Buffer.{written}
+use Rattle.archive.specs.Offers.{offer}
 use Rattle.archive.specs.Answers.{Answer, emptied, filed, shown, named, ofEmptied, ofFiling}
 use Rattle.archive.specs.Archive.{emptying, emptyBytes, filing, fileBytes}
 use Rattle.cases.specs.Words.{wordsOf, placeIn}
@@ -65,7 +66,7 @@ usedAfter k fields b u =
     cond (eqb k 0) (usedIn (ofEmptied (emptying b)) 0)
     (cond (eqb k 1) (plainNumber fields)
     (cond (eqb k 2) (filledLength (length b) (plainNumber fields))
-    (cond (eqb k 3) (usedIn (ofFiling (filing b u (caseIn fields)) u) u)
+    (cond (eqb k 3) (usedIn (ofFiling (filing b u (offer (caseIn fields))) u) u)
     (cond (eqb k 4) (recordedLength (length b) u) u))))
 
 -- another byte at a place
@@ -77,7 +78,7 @@ unfoldable pub bytesAfter : ℕ → List ℕ → List ℕ → ℕ → List ℕ
 bytesAfter k fields b u =
     cond (eqb k 0) (emptyBytes b)
     (cond (eqb k 2) (filledBytes (plainNumber fields) b)
-    (cond (eqb k 3) (fileBytes b u (caseIn fields))
+    (cond (eqb k 3) (fileBytes b u (offer (caseIn fields)))
     (cond (eqb k 4) (recordedBytes b u (recordIn fields))
     (cond (eqb k 5) (torn (plainNumber fields) b) b))))
 

@@ -1,5 +1,6 @@
 // The calls, a line printed for each.
 ghost use mathlib.Core.Path.{_≡_};
+ghost use Rattle.archive.specs.Offers.{offer};
 ghost use Rattle.archive.specs.Answers.{ofEmptied, ofFiling};
 ghost use Rattle.archive.specs.Archive.{emptying, emptyBytes, filing, fileBytes};
 ghost use Rattle.cases.specs.Calls.{usedIn, torn};
@@ -56,7 +57,7 @@ pub fn empty(archive: &mut [u8]) -> u64
 
 // The used length afterwards.
 pub fn file(archive: &mut [u8], used: u64, case: &[u8]) -> u64
-    ensures { λ r. ⌜ (r ≡ usedIn (ofFiling (filing (now (archive .entry)) used (now (case .entry))) used) used) × (now (archive .exit) ≡ fileBytes (now (archive .entry)) used (now (case .entry))) ⌝ }
+    ensures { λ r. ⌜ (r ≡ usedIn (ofFiling (filing (now (archive .entry)) used (offer (now (case .entry)))) used) used) × (now (archive .exit) ≡ fileBytes (now (archive .entry)) used (offer (now (case .entry)))) ⌝ }
 {
     match archive::file(archive, used, case) {
         Filing::Filed {

@@ -18,6 +18,7 @@ use Rattle.records.proofs.RecordLaws.{length-firstLines}
 use Rattle.records.proofs.WorstLine.{worst-is-highest}
 use Rattle.emission.specs.Called.{ends}
 use Rattle.emission.proofs.Demand2.{WorkOutCall}
+use Rattle.archive.specs.Offers.{offer}
 use Rattle.archive.specs.Archive.{emptyRefusals, emptyRefusal, emptying, emptyBytes, fileRefusals, fileRefusal, filing, fileBytes, showRefusals, showRefusal, showPart, worstRefusals, worstRefusal, naming}
 use Rattle.archive.specs.Answers.{ofEmptied, ofFiling, ofHighest, emptyAnswer, fileAnswer, worstAnswer, refusalIn}
 use Rattle.archive.proofs.Refusals.{accepted-refused}
@@ -77,8 +78,8 @@ unfolding filing fileBytes fileAnswer
 file-in-order call =
     let b = now (call .args .0) in
     let u = call .args .1 .0 in
-    let c = now (call .args .1 .1 .0) in
-    in-order (fileRefusals b u c) (refusalIn (ofFiling (call .result) u)) _
+    let o = offer (now (call .args .1 .1 .0)) in
+    in-order (fileRefusals b u o) (refusalIn (ofFiling (call .result) u)) _
     (ap refusalIn (call .kept .2))
     (λ z. (call .kept .0 ∙ rw z, call .kept .1 ∙ rw z))
 
@@ -128,8 +129,8 @@ unfolding fileBytes fileAnswer
 file-unchanged call h =
     let b = now (call .args .0) in
     let u = call .args .1 .0 in
-    let c = now (call .args .1 .1 .0) in
-    call .kept .1 ∙ accepted-refused (fileRefusal b u c) _ b (λ z. h (ap refusalIn (call .kept .2) ∙ z))
+    let o = offer (now (call .args .1 .1 .0)) in
+    call .kept .1 ∙ accepted-refused (fileRefusal b u o) _ b (λ z. h (ap refusalIn (call .kept .2) ∙ z))
 
 show-none : (call : ShowCall) (told : ShowRefusalCall) → SameArguments call told → (told .result ≡ 0 → ⊥) → now (call .result) ≡ []
 unfolding showPart

@@ -9,6 +9,7 @@ use lib.ListN.{length}
 use Rattle.emission.specs.Figures.{figuresOf}
 use Rattle.emission.specs.Called.{ends}
 use Rattle.records.specs.Layout.{bytesAt}
+use Rattle.archive.specs.Offers.{Offer}
 use Rattle.archive.specs.Archive.{emptyBytes, fileBytes, showRefusal, showPart}
 use Rattle.archive.specs.Answers.{Answer, shown, emptyAnswer, fileAnswer, worstAnswer}
 use Rattle.history.specs.Ledger.{Request, empty, file, show, worst, after}
@@ -29,11 +30,11 @@ c-empty {b} {a} {b′} t =
     let o : b′ ≡ emptyBytes b = sym (t .after) ∙ t .call .kept .1 ∙ ap emptyBytes (t .before) in
     rw (e, o) (can-empty (t .call .κs .0) b)
 
-c-file : {c f b : List ℕ} {u : ℕ} {a : Answer} {b′ : List ℕ} → CFileTurn c f b u a b′ → FileTurn c f b u a b′
-c-file {c} {f} {b} {u} {a} {b′} t =
-    let e : a ≡ fileAnswer b u c = t .says ∙ t .call .kept .0 ∙ λ i. fileAnswer (t .before i) (t .at i) (t .case i) in
-    let o : b′ ≡ fileBytes b u c = sym (t .after) ∙ t .call .kept .1 ∙ λ i. fileBytes (t .before i) (t .at i) (t .case i) in
-    rw (e, o) (can-file (t .call .κs .0) c f b u (λ z. c-worked (t .fed z)))
+c-file : {o : Offer} {f b : List ℕ} {u : ℕ} {a : Answer} {b′ : List ℕ} → CFileTurn o f b u a b′ → FileTurn o f b u a b′
+c-file {o} {f} {b} {u} {a} {b′} t =
+    let e : a ≡ fileAnswer b u o = t .says ∙ t .call .kept .0 ∙ λ i. fileAnswer (t .before i) (t .at i) (t .offered i) in
+    let q : b′ ≡ fileBytes b u o = sym (t .after) ∙ t .call .kept .1 ∙ λ i. fileBytes (t .before i) (t .at i) (t .offered i) in
+    rw (e, q) (can-file (t .call .κs .0) o f b u (λ z. c-worked (t .fed z)))
 
 c-show : {k : ℕ} {b : List ℕ} {u : ℕ} {a : Answer} {b′ : List ℕ} → CShowTurn k b u a b′ → ShowTurn k b u a b′
 c-show {k} {b} {u} {a} {b′} t =
@@ -53,7 +54,7 @@ c-worst {m} {b} {u} {a} {b′} t =
 
 pub c-turn : (c : Request) (b : List ℕ) (u : ℕ) (a : Answer) (b′ : List ℕ) → CTurn c b u a b′ → Turn c b u a b′
 c-turn empty b u a b′ t = c-empty t
-c-turn (file c f) b u a b′ t = c-file t
+c-turn (file o f) b u a b′ t = c-file t
 c-turn (show k) b u a b′ t = c-show t
 c-turn (worst m) b u a b′ t = c-worst t
 

@@ -54,26 +54,26 @@ module _ (κ : Lft) where
   c-turn-can : (c : Request) → Fed c → (b : List ℕ) (u : ℕ) → CanTurn CTurn c b u
   unfolding lent startShown lengthShown showPart fileAnswer worstAnswer
   c-turn-can empty d b u = record { answer = emptyAnswer b; bytes = emptyBytes b; turn = c-can-empty b }
-  c-turn-can (file c f) d b u =
-      let r = fileRefusal b u c in
+  c-turn-can (file o f) d b u =
+      let r = fileRefusal b u o in
       record {
-        answer = fileAnswer b u c;
-        bytes = fileBytes b u c;
+        answer = fileAnswer b u o;
+        bytes = fileBytes b u o;
         turn = record {
           call = record {
             κs = (κ, (κ, (κ, (κ, tt))));
-            args = (lent b, (lent u, (lent c, (lent 0, tt))));
+            args = (lent b, (lent u, (lent (o .case), (lent 0, tt))));
             result = r;
-            last = (fileBytes b u c, (accepted r (usedLength recordSize (countAt b u + 1)) u, (tt, (accepted r (countAt b u) 0, tt))));
+            last = (fileBytes b u o, (accepted r (usedLength recordSize (countAt b u + 1)) u, (tt, (accepted r (countAt b u) 0, tt))));
             kept = (refl, refl);
           };
           before = refl;
           at = refl;
-          case = refl;
+          offered = refl;
           after = refl;
           says = refl;
           fed = λ e. record {
-            call = record { κs = (κ, (κ, tt)); args = (lent c, (lent (figuresOf c), tt)); result = refusalOf c; last = (tt, (figuresOf c, tt)); kept = (refl, refl) };
+            call = record { κs = (κ, (κ, tt)); args = (lent (o .case), (lent (figuresOf (o .case)), tt)); result = refusalOf (o .case); last = (tt, (figuresOf (o .case), tt)); kept = (refl, refl) };
             on = refl;
             gave = d e;
           };

@@ -11,6 +11,7 @@ use Rattle.emission.specs.Called.{ends}
 use Rattle.records.specs.Layout.{Line, usedLength, recordSize}
 use Rattle.records.specs.Buffer.{countAt}
 use Rattle.archive.specs.Conditions.{accepted}
+use Rattle.archive.specs.Offers.{Offer, offer}
 use Rattle.archive.specs.Archive.{emptyRefusals, emptyRefusal, fileRefusal}
 use Rattle.archive.specs.Answers.{Answer, emptied, emptyAnswer, fileAnswer, handed}
 use Rattle.history.specs.Ledger.{Request, empty, file, show, worst, after}
@@ -26,12 +27,12 @@ twice (suc r) x u = refl
 pub c-handed-empty : {b : List ℕ} {a : Answer} {b′ : List ℕ} (u : ℕ) (t : CEmptyTurn b a b′) → t .call .result ≡ 0 → handed a u ≡ now (ends (t .call) .1 .0)
 c-handed-empty u t z = rw (t .says, z)
 
-pub c-handed-file : {c f b : List ℕ} {u : ℕ} {a : Answer} {b′ : List ℕ} (t : CFileTurn c f b u a b′) → handed a u ≡ now (ends (t .call) .1 .0)
+pub c-handed-file : {o : Offer} {f b : List ℕ} {u : ℕ} {a : Answer} {b′ : List ℕ} (t : CFileTurn o f b u a b′) → handed a u ≡ now (ends (t .call) .1 .0)
 unfolding fileAnswer
 c-handed-file {u = u} t =
     let x = now (t .call .args .0) in
     let v = now (t .call .args .1 .0) in
-    let d = now (t .call .args .1 .1 .0) in
+    let d = offer (now (t .call .args .1 .1 .0)) in
     let e = t .call .kept .0 in
     let r : t .call .result ≡ fileRefusal x v d = cc e in
     let w : now (ends (t .call) .1 .0) ≡ accepted (fileRefusal x v d) (usedLength recordSize (countAt x v + 1)) v = cc e in
@@ -50,7 +51,7 @@ c-handed empty b u a b′ t h =
     let e = t .call .kept .0 in
     let r : t .call .result ≡ emptyRefusal x = cc e in
     c-handed-empty u t (r ∙ ap emptyRefusal (t .before) ∙ empty-refusal-none b h)
-c-handed (file c f) b u a b′ t h = c-handed-file t
+c-handed (file o f) b u a b′ t h = c-handed-file t
 c-handed (show k) b u a b′ t h = rw (t .says)
 c-handed (worst m) b u a b′ t h = rw (t .says)
 

@@ -9,6 +9,7 @@ use denote.Ref.{RefT}
 use lib.ListN.{length}
 use Rattle.scenario.specs.Case.{refusalOf}
 use Rattle.emission.specs.Figures.{figuresOf}
+use Rattle.archive.specs.Offers.{Offer, Within}
 use Rattle.archive.specs.Archive.{emptyRefusals, emptying, emptyBytes, filing, fileBytes, showRefusal, showPart, naming}
 use Rattle.archive.specs.Answers.{Answer, emptied, shown, emptyAnswer, fileAnswer, worstAnswer, handed}
 use Rattle.archive.proofs.AnswerLaws.{of-emptying, of-filing, of-naming}
@@ -64,15 +65,15 @@ module _ (κ : Lft) where
     says = sym (of-emptying b);
   }
 
-  pub can-file : (c f b : List ℕ) (u : ℕ) → (refusalOf c ≡ 0 → WorkedOut c f) → FileTurn c f b u (fileAnswer b u c) (fileBytes b u c)
+  pub can-file : (o : Offer) (f b : List ℕ) (u : ℕ) → (Within o → WorkedOut (o .case) f) → FileTurn o f b u (fileAnswer b u o) (fileBytes b u o)
   unfolding lent
-  can-file c f b u w = record {
-    call = record { κs = (κ, (κ, tt)); args = (lent b, (u, (lent c, tt))); result = filing b u c; last = (fileBytes b u c, (tt, (tt, tt))); kept = (refl, refl, of-filing b u c) };
+  can-file o f b u w = record {
+    call = record { κs = (κ, (κ, tt)); args = (lent b, (u, (lent (o .case), tt))); result = filing b u o; last = (fileBytes b u o, (tt, (tt, tt))); kept = (refl, refl, of-filing b u o) };
     before = refl;
     at = refl;
-    case = refl;
+    offered = refl;
     after = refl;
-    says = sym (of-filing b u c);
+    says = sym (of-filing b u o);
     fed = w;
   }
 
@@ -102,7 +103,7 @@ module _ (κ : Lft) where
 
   turn-can : (c : Request) → Fed c → (b : List ℕ) (u : ℕ) → CanTurn Turn c b u
   turn-can empty d b u = record { answer = emptyAnswer b; bytes = emptyBytes b; turn = can-empty b }
-  turn-can (file c f) d b u = record { answer = fileAnswer b u c; bytes = fileBytes b u c; turn = can-file c f b u (λ e. can-work-out c f (d e)) }
+  turn-can (file o f) d b u = record { answer = fileAnswer b u o; bytes = fileBytes b u o; turn = can-file o f b u (λ e. can-work-out (o .case) f (d e)) }
   turn-can (show k) d b u = record { answer = shown (showRefusal b u k) (showPart b u k); bytes = b; turn = can-show k b u }
   turn-can (worst m) d b u = record { answer = worstAnswer b u m; bytes = b; turn = can-worst m b u }
 

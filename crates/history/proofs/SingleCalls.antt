@@ -19,6 +19,7 @@ use Rattle.records.specs.Layout.{trailerSize, usedLength, recordSize}
 use Rattle.records.specs.Lines.{worstOf}
 use Rattle.records.specs.Buffer.{countAt, linesIn}
 use Rattle.archive.specs.Conditions.{accepted}
+use Rattle.archive.specs.Offers.{offer}
 use Rattle.archive.specs.Archive.{emptyRefusals, emptyRefusal, emptyBytes, fileRefusals, fileRefusal, fileBytes, showRefusals, showRefusal, worstRefusals, worstRefusal}
 use Rattle.archive.specs.Answers.{emptyAnswer, fileAnswer, worstAnswer}
 use Rattle.archive.proofs.Refusals.{accepted-refused}
@@ -31,7 +32,7 @@ empty-told : (call : CEmptyCall) → call .result ≡ emptyRefusal (now (call .a
 unfolding emptyAnswer
 empty-told call = cc (call .kept .0)
 
-file-told : (call : CFileCall) → call .result ≡ fileRefusal (now (call .args .0)) (now (call .args .1 .0)) (now (call .args .1 .1 .0))
+file-told : (call : CFileCall) → call .result ≡ fileRefusal (now (call .args .0)) (now (call .args .1 .0)) (offer (now (call .args .1 .1 .0)))
 unfolding fileAnswer
 file-told call = cc (call .kept .0)
 
@@ -45,13 +46,13 @@ first cs r e = subst (IsFirst cs) (sym e) (first-of-is-first cs)
 pub c-refusal-first :
     ((call : CWorkOutCall) → IsFirst (refusals (now (call .args .0))) (call .result))
     × ((call : CEmptyCall) → IsFirst (emptyRefusals (now (call .args .0))) (call .result))
-    × ((call : CFileCall) → IsFirst (fileRefusals (now (call .args .0)) (now (call .args .1 .0)) (now (call .args .1 .1 .0))) (call .result))
+    × ((call : CFileCall) → IsFirst (fileRefusals (now (call .args .0)) (now (call .args .1 .0)) (offer (now (call .args .1 .1 .0)))) (call .result))
     × ((call : CShowCall) → IsFirst (showRefusals (now (call .args .0)) (call .args .1 .0) (call .args .1 .1 .0)) (call .result))
     × ((call : CWorstCall) → IsFirst (worstRefusals (now (call .args .0)) (call .args .1 .0) (call .args .1 .1 .0)) (call .result))
 c-refusal-first = (
   λ call. refusal-order (now (call .args .0)) (call .result) .0 (sym (call .kept .0)),
   λ call. first (emptyRefusals (now (call .args .0))) (call .result) (empty-told call),
-  λ call. first (fileRefusals (now (call .args .0)) (now (call .args .1 .0)) (now (call .args .1 .1 .0))) (call .result) (file-told call),
+  λ call. first (fileRefusals (now (call .args .0)) (now (call .args .1 .0)) (offer (now (call .args .1 .1 .0)))) (call .result) (file-told call),
   λ call. first (showRefusals (now (call .args .0)) (call .args .1 .0) (call .args .1 .1 .0)) (call .result) (call .kept .0),
   λ call. first (worstRefusals (now (call .args .0)) (call .args .1 .0) (call .args .1 .1 .0)) (call .result) (worst-told call),
 )
@@ -72,8 +73,8 @@ unfolding fileBytes fileAnswer
 file-beside call h =
     let b = now (call .args .0) in
     let u = now (call .args .1 .0) in
-    let c = now (call .args .1 .1 .0) in
-    let r = fileRefusal b u c in
+    let o = offer (now (call .args .1 .1 .0)) in
+    let r = fileRefusal b u o in
     let n : r ≡ 0 → ⊥ = (λ z. h (file-told call ∙ z)) in
     let v : now (ends call .1 .0) ≡ accepted r (usedLength recordSize (countAt b u + 1)) u = cc (call .kept .0) in
     let k : now (ends call .1 .1 .1 .0) ≡ accepted r (countAt b u) 0 = cc (call .kept .0) in

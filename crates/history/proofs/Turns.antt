@@ -17,6 +17,7 @@ use Rattle.emission.proofs.Demand2.{figure-bounds}
 use Rattle.records.specs.Layout.{Line, noLine, recordOf, trailer, trailerSize, usedLength, mostRecords, recordSize, edition, bytesAt}
 use Rattle.archive.specs.Conditions.{accepted}
 use Rattle.records.specs.Lines.{held}
+use Rattle.archive.specs.Offers.{Offer, Within, lineWith}
 use Rattle.archive.specs.Answers.{Answer, emptied, shown, ofFiling, emptyAnswer, fileAnswer, worstAnswer, handed}
 use Rattle.history.specs.Ledger.{Request, empty, file, show, worst, judgedEmpty, fromLines, judgedFile, judgedShow, judgedWorst, answer, after}
 use Rattle.archive.specs.Archive.{emptyRefusals, emptyRefusal, emptyBytes, fileRefusal, lineFor, fileBytes, showRefusals, showRefusal, showPart, worstRefusals}
@@ -46,9 +47,10 @@ all-held-snoc (m ∷ ls) l g h = (g .0, all-held-snoc ls l (g .1) h)
 worked-figures : {c f : List ℕ} → WorkedOut c f → f ≡ figuresOf c
 worked-figures w = w .gave ∙ w .call .kept .1 ∙ ap figuresOf (w .on)
 
-held-line : (c f : List ℕ) → refusalOf c ≡ 0 → WorkedOut c f → HeldLine (record { case = c; figures = f })
-held-line c f e w =
+held-line : (o : Offer) (f : List ℕ) → Within o → WorkedOut (o .case) f → HeldLine (lineWith o f)
+held-line o f r w =
     let k = w .call in
+    let e = r .case-within in
     record { within-ranges = e; worked = w; bounds = λ i h. rw (← w .on, w .gave) (figure-bounds k (k .kept .0 ∙ ap refusalOf (w .on) ∙ e) i h) }
 
 -- ── empty, on any buffer
@@ -64,9 +66,9 @@ emptied-stands b h = record { holds = emptied-holds b h; size-is = length-emptie
 
 -- ── a filing's refusals, as the ledger judges them: the case's own, then these
 
-pub judged-file-is : (size : ℕ) (ls : List Line) (c : List ℕ) → firstOf (judgedFile size ls c) ≡ orElse (refusalOf c) (firstOf (fromLines size ls c))
+pub judged-file-is : (size : ℕ) (ls : List Line) (o : Offer) → firstOf (judgedFile size ls o) ≡ orElse (refusalOf (o .case)) (firstOf (fromLines size ls o))
 unfolding judgedFile
-judged-file-is size ls c = behind-case c (fromLines size ls c)
+judged-file-is size ls o = behind-case (o .case) (fromLines size ls o)
 
 -- ── a call from a buffer b that holds the lines ls at the used length u
 
@@ -108,47 +110,47 @@ module _ {b : List ℕ} {u : ℕ} {ls : List Line} (h : HoldsLines b u ls) (g : 
   }
 
   -- file's refusal is the ledger's
-  same-refusal : (c : List ℕ) → fileRefusal b u c ≡ firstOf (judgedFile (length b) ls c)
-  same-refusal c = file-refusal-is b u c ∙ rw (sound-is h, lines-are h, count-is h, h .length-is) (sym (judged-file-is (length b) ls c))
+  same-refusal : (o : Offer) → fileRefusal b u o ≡ firstOf (judgedFile (length b) ls o)
+  same-refusal o = file-refusal-is b u o ∙ rw (sound-is h, lines-are h, count-is h, h .length-is) (sym (judged-file-is (length b) ls o))
 
-  record FreeLines (c : List ℕ) : Type 0 where
-    pub within-ranges : refusalOf c ≡ 0
+  record FreeLines (o : Offer) : Type 0 where
+    pub within : Within o
     pub room : u + recordSize ≤ length b
     pub fewer : length ls < mostRecords
 
-  free-lines : (c : List ℕ) → firstOf (judgedFile (length b) ls c) ≡ 0 → FreeLines c
-  free-lines c e =
-      let z = both-zero (refusalOf c) (firstOf (fromLines (length b) ls c)) (sym (judged-file-is (length b) ls c) ∙ e) in
-      let f = full-exactly (length b) (usedLength recordSize (length ls)) (length ls) .0 (none-holds (fromLines (length b) ls c) refl (z .1) 1) in
+  free-lines : (o : Offer) → firstOf (judgedFile (length b) ls o) ≡ 0 → FreeLines o
+  free-lines o e =
+      let z = both-zero (refusalOf (o .case)) (firstOf (fromLines (length b) ls o)) (sym (judged-file-is (length b) ls o) ∙ e) in
+      let f = full-exactly (length b) (usedLength recordSize (length ls)) (length ls) .0 (none-holds (fromLines (length b) ls o) refl (z .1) 1) in
       let n = f .1 in
-      record { within-ranges = z .0; room = rw (h .length-is) (f .0); fewer = omega (arith, h .few) }
+      record { within = record { case-within = z .0 }; room = rw (h .length-is) (f .0); fewer = omega (arith, h .few) }
 
-  file-stands : (c f : List ℕ) (r : ℕ) → (r ≡ 0 → FreeLines c) → (refusalOf c ≡ 0 → WorkedOut c f)
-      → Stands (length b) (accepted r (written b (length ls) (lineFor c)) b) (accepted r (accepted r (usedLength recordSize (length ls + 1)) u) u) (accepted r (ls ++ (record { case = c; figures = f } ∷ [])) ls)
-  file-stands c f zero free fed =
+  file-stands : (o : Offer) (f : List ℕ) (r : ℕ) → (r ≡ 0 → FreeLines o) → (Within o → WorkedOut (o .case) f)
+      → Stands (length b) (accepted r (written b (length ls) (lineFor o)) b) (accepted r (accepted r (usedLength recordSize (length ls + 1)) u) u) (accepted r (ls ++ (lineWith o f ∷ [])) ls)
+  file-stands o f zero free fed =
       let z = free refl in
-      let w = fed (z .within-ranges) in
-      let l = storable-line c (z .within-ranges) in
+      let w = fed (z .within) in
+      let l = storable-line o (z .within) in
       record {
-        holds = rw (worked-figures w) (written-holds h (lineFor c) l (z .room) (z .fewer));
-        size-is = length-written h (lineFor c) l (z .room) (z .fewer);
-        held = all-held-snoc ls (record { case = c; figures = f }) g (held-line c f (z .within-ranges) w);
+        holds = rw (worked-figures w) (written-holds h (lineFor o) l (z .room) (z .fewer));
+        size-is = length-written h (lineFor o) l (z .room) (z .fewer);
+        held = all-held-snoc ls (lineWith o f) g (held-line o f (z .within) w);
       }
-  file-stands c f (suc r) free fed = still
+  file-stands o f (suc r) free fed = still
 
-  file-kept : {c f : List ℕ} {a : Answer} {b′ : List ℕ} → FileTurn c f b u a b′ → Kept (length b) u ls (file c f) a b′
+  file-kept : {o : Offer} {f : List ℕ} {a : Answer} {b′ : List ℕ} → FileTurn o f b u a b′ → Kept (length b) u ls (file o f) a b′
   unfolding answer after fileBytes fileAnswer
-  file-kept {c} {f} t =
-      let e : _ ≡ fileAnswer b u c = t .says ∙ ap (ofFiling (t .call .result)) (sym (t .at)) ∙ t .call .kept .2 ∙ λ i. fileAnswer (t .before i) (t .at i) (t .case i) in
-      let o = sym (t .after) ∙ t .call .kept .1 ∙ λ i. fileBytes (t .before i) (t .at i) (t .case i) in
+  file-kept {o} {f} t =
+      let e : _ ≡ fileAnswer b u o = t .says ∙ ap (ofFiling (t .call .result)) (sym (t .at)) ∙ t .call .kept .2 ∙ λ i. fileAnswer (t .before i) (t .at i) (t .offered i) in
+      let q = sym (t .after) ∙ t .call .kept .1 ∙ λ i. fileBytes (t .before i) (t .at i) (t .offered i) in
       record {
-        answered = e ∙ rw (same-refusal c, count-is h, h .length-is);
-        stands = rw (e, o, same-refusal c, count-is h) (file-stands c f (firstOf (judgedFile (length b) ls c)) (free-lines c) (t .fed));
+        answered = e ∙ rw (same-refusal o, count-is h, h .length-is);
+        stands = rw (e, q, same-refusal o, count-is h) (file-stands o f (firstOf (judgedFile (length b) ls o)) (free-lines o) (t .fed));
       }
 
   kept-of : (c : Request) {a : Answer} {b′ : List ℕ} → Turn c b u a b′ → Kept (length b) u ls c a b′
   kept-of empty t = empty-kept t
-  kept-of (file c f) t = file-kept t
+  kept-of (file o f) t = file-kept t
   kept-of (show k) t = show-kept t
   kept-of (worst m) t = worst-kept t
 

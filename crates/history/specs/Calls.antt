@@ -9,6 +9,7 @@ use Rattle.emission.specs.Called.{Called, ends}
 use Rattle.records.specs.Layout.{trailer, usedLength, recordSize, edition, bytesAt}
 use Rattle.records.specs.Lines.{worstOf, IsWorst}
 use Rattle.records.specs.Buffer.{countAt, linesIn, written}
+use Rattle.archive.specs.Offers.{offer}
 use Rattle.archive.specs.Archive.{emptyRefusals, fileRefusals, lineFor, showRefusals, worstRefusals}
 use Rattle.archive.specs.Answers.{ofEmptied, ofFiling, ofHighest, refusalIn}
 use Rattle.archive.specs.declared.Emptied.the-variants.{Used}
@@ -69,9 +70,9 @@ abbrev pub FileInOrder : FileCall → Type 0
 FileInOrder call =
     let b = now (call .args .0) in
     let u = call .args .1 .0 in
-    let c = now (call .args .1 .1 .0) in
-    InOrder (fileRefusals b u c) (refusalIn (ofFiling (call .result) u))
-    ((call .result ≡ Filed (countAt b u) (usedLength recordSize (countAt b u + 1))) × (now (ends call .0) ≡ written b (countAt b u) (lineFor c)))
+    let o = offer (now (call .args .1 .1 .0)) in
+    InOrder (fileRefusals b u o) (refusalIn (ofFiling (call .result) u))
+    ((call .result ≡ Filed (countAt b u) (usedLength recordSize (countAt b u + 1))) × (now (ends call .0) ≡ written b (countAt b u) (lineFor o)))
 
 abbrev pub ShowInOrder : ShowCall → ShowRefusalCall → Type 0
 ShowInOrder call told =

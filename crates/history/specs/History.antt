@@ -10,6 +10,7 @@ use Rattle.emission.specs.Called.{ends}
 use Rattle.emission.proofs.Demand2.{WorkOutCall}
 use Rattle.emission.specs.Figures.{exactValues, figuresOf, WithinBounds, margin}
 use Rattle.records.specs.Layout.{Line, archiveOf, usedLength, recordSize, edition}
+use Rattle.archive.specs.Offers.{Offer, offer, Within}
 use Rattle.archive.specs.Answers.{Answer, emptied, filed, shown, ofEmptied, ofFiling, ofHighest, handed}
 use Rattle.history.specs.Calls.{EmptyCall, FileCall, ShowCall, ShowRefusalCall, WorstCall, SameArguments}
 use Rattle.history.specs.Ledger.{Request, empty, file, show, worst, answers, lines}
@@ -28,15 +29,15 @@ pub record EmptyTurn (b : List ℕ) (a : Answer) (b′ : List ℕ) : Type 0 wher
   pub after : now (ends call .0) ≡ b′
   pub says : a ≡ ofEmptied (call .result)
 
--- The figures f are free where the case c is refused by its ranges: the ledger is fed none then.
-pub record FileTurn (c f b : List ℕ) (u : ℕ) (a : Answer) (b′ : List ℕ) : Type 0 where
+-- The figures f are free where what is offered is out of range: the ledger is fed none then.
+pub record FileTurn (o : Offer) (f b : List ℕ) (u : ℕ) (a : Answer) (b′ : List ℕ) : Type 0 where
   pub call : FileCall
   pub before : now (call .args .0) ≡ b
   pub at : call .args .1 .0 ≡ u
-  pub case : now (call .args .1 .1 .0) ≡ c
+  pub offered : offer (now (call .args .1 .1 .0)) ≡ o
   pub after : now (ends call .0) ≡ b′
   pub says : a ≡ ofFiling (call .result) u
-  pub fed : refusalOf c ≡ 0 → WorkedOut c f
+  pub fed : Within o → WorkedOut (o .case) f
 
 -- The answer's refusal is the companion's result.
 pub record ShowTurn (k : ℕ) (b : List ℕ) (u : ℕ) (a : Answer) (b′ : List ℕ) : Type 0 where
@@ -59,7 +60,7 @@ pub record WorstTurn (m : ℕ) (b : List ℕ) (u : ℕ) (a : Answer) (b′ : Lis
 
 abbrev pub Turn : Request → List ℕ → ℕ → Answer → List ℕ → Type 0
 Turn empty b u a b′ = EmptyTurn b a b′
-Turn (file c f) b u a b′ = FileTurn c f b u a b′
+Turn (file o f) b u a b′ = FileTurn o f b u a b′
 Turn (show k) b u a b′ = ShowTurn k b u a b′
 Turn (worst m) b u a b′ = WorstTurn m b u a b′
 
@@ -122,10 +123,10 @@ BySpace size n a =
 
 -- ── that there are such lists
 
--- the figures of a filing are work out's, unless its case is refused
+-- the figures of a filing are work out's, unless what it offers is out of range
 abbrev pub Fed : Request → Type 0
 Fed empty = Unit {0}
-Fed (file c f) = refusalOf c ≡ 0 → f ≡ figuresOf c
+Fed (file o f) = Within o → f ≡ figuresOf (o .case)
 Fed (show k) = Unit {0}
 Fed (worst m) = Unit {0}
 

@@ -4,9 +4,9 @@ use mathlib.Core.Path.{_≡_}
 use mathlib.Core.List.{List, [], _∷_}
 use Prim.Native.Nat.{ℕ}
 use denote.Ref.{now}
-use Rattle.scenario.specs.Case.{refusalOf}
 use Rattle.emission.specs.Called.{Called, ends}
 use Rattle.records.specs.Layout.{bytesAt}
+use Rattle.archive.specs.Offers.{Offer, offer, Within}
 use Rattle.archive.specs.Answers.{Answer, emptied, filed, shown, named}
 use Rattle.csorvelin.proofs.csorvelin_work_out.Kinds as work-out-kinds
 use Rattle.csorvelin.proofs.csorvelin_work_out.Reads as work-out-reads
@@ -46,14 +46,14 @@ pub record CEmptyTurn (b : List ℕ) (a : Answer) (b′ : List ℕ) : Type 0 whe
   pub after : now (ends call .0) ≡ b′
   pub says : a ≡ emptied (call .result) (now (ends call .1 .0))
 
-pub record CFileTurn (c f b : List ℕ) (u : ℕ) (a : Answer) (b′ : List ℕ) : Type 0 where
+pub record CFileTurn (o : Offer) (f b : List ℕ) (u : ℕ) (a : Answer) (b′ : List ℕ) : Type 0 where
   pub call : CFileCall
   pub before : now (call .args .0) ≡ b
   pub at : now (call .args .1 .0) ≡ u
-  pub case : now (call .args .1 .1 .0) ≡ c
+  pub offered : offer (now (call .args .1 .1 .0)) ≡ o
   pub after : now (ends call .0) ≡ b′
   pub says : a ≡ filed (call .result) (now (ends call .1 .1 .1 .0)) (now (ends call .1 .0))
-  pub fed : refusalOf c ≡ 0 → CWorkedOut c f
+  pub fed : Within o → CWorkedOut (o .case) f
 
 -- the part shown lies at the place that the call gives
 pub record CShowTurn (k : ℕ) (b : List ℕ) (u : ℕ) (a : Answer) (b′ : List ℕ) : Type 0 where
@@ -74,7 +74,7 @@ pub record CWorstTurn (m : ℕ) (b : List ℕ) (u : ℕ) (a : Answer) (b′ : Li
 
 abbrev pub CTurn : Request → List ℕ → ℕ → Answer → List ℕ → Type 0
 CTurn empty b u a b′ = CEmptyTurn b a b′
-CTurn (file c f) b u a b′ = CFileTurn c f b u a b′
+CTurn (file o f) b u a b′ = CFileTurn o f b u a b′
 CTurn (show k) b u a b′ = CShowTurn k b u a b′
 CTurn (worst m) b u a b′ = CWorstTurn m b u a b′
 
@@ -83,7 +83,7 @@ CTurn (worst m) b u a b′ = CWorstTurn m b u a b′
 -- what the variable holds after a call that found u in it: empty and file are lent it, show and worst take what it holds
 abbrev pub leaves : (c : Request) (b : List ℕ) (u : ℕ) (a : Answer) (b′ : List ℕ) → CTurn c b u a b′ → ℕ
 leaves empty b u a b′ t = now (ends (t .call) .1 .0)
-leaves (file c f) b u a b′ t = now (ends (t .call) .1 .0)
+leaves (file o f) b u a b′ t = now (ends (t .call) .1 .0)
 leaves (show k) b u a b′ t = u
 leaves (worst m) b u a b′ t = u
 

@@ -7,6 +7,7 @@ use lib.ListN.{length, getD}
 use Rattle.scenario.specs.Refusal.{Condition, _when_, firstOf}
 use Rattle.scenario.specs.Case.{refusals}
 use Rattle.records.specs.Layout.{Line, noLine, recordOf, trailerSize, usedLength, recordSize}
+use Rattle.archive.specs.Offers.{Offer, lineWith}
 use Rattle.archive.specs.Conditions.{accepted, full, notCompartment}
 use Rattle.records.specs.Lines.{held, worstOf}
 use Rattle.archive.specs.Answers.{Answer, emptied, filed, shown, named}
@@ -14,7 +15,7 @@ use Rattle.archive.specs.Answers.{Answer, emptied, filed, shown, named}
 -- A call as the ledger is fed it. Whose figures come with a filing is said by `FileTurn`.
 pub data Request : Type 0 where
   empty : Request
-  file : (case figures : List ℕ) → Request
+  file : (offered : Offer) (figures : List ℕ) → Request
   show : (number : ℕ) → Request
   worst : (compartment : ℕ) → Request
 
@@ -23,11 +24,11 @@ pub data Request : Type 0 where
 unfoldable pub judgedEmpty : ℕ → List Condition
 judgedEmpty size = (23 when ltb size trailerSize) ∷ []
 
-abbrev pub fromLines : ℕ → List Line → List ℕ → List Condition
-fromLines size ls c = (22 when held ls c) ∷ (23 when full size (usedLength recordSize (length ls)) (length ls)) ∷ []
+abbrev pub fromLines : ℕ → List Line → Offer → List Condition
+fromLines size ls o = (22 when held ls (o .case)) ∷ (23 when full size (usedLength recordSize (length ls)) (length ls)) ∷ []
 
-unfoldable pub judgedFile : ℕ → List Line → List ℕ → List Condition
-judgedFile size ls c = refusals c ++ fromLines size ls c
+unfoldable pub judgedFile : ℕ → List Line → Offer → List Condition
+judgedFile size ls o = refusals (o .case) ++ fromLines size ls o
 
 unfoldable pub judgedShow : List Line → ℕ → List Condition
 judgedShow ls k = (24 when leb (length ls) k) ∷ []
@@ -40,8 +41,8 @@ judgedWorst ls m = (12 when notCompartment m) ∷ (24 when eqb (length ls) 0) �
 -- its answer to a request, on a buffer of some size
 unfoldable pub answer : ℕ → List Line → Request → Answer
 answer size ls empty = let r = firstOf (judgedEmpty size) in emptied r (accepted r trailerSize 0)
-answer size ls (file c f) =
-    let r = firstOf (judgedFile size ls c) in
+answer size ls (file o f) =
+    let r = firstOf (judgedFile size ls o) in
     let n = length ls in
     filed r (accepted r n 0) (accepted r (usedLength recordSize (n + 1)) (usedLength recordSize n))
 answer size ls (show k) = let r = firstOf (judgedShow ls k) in shown r (accepted r (recordOf (getD ls k noLine)) [])
@@ -50,7 +51,7 @@ answer size ls (worst m) = let r = firstOf (judgedWorst ls m) in named r (accept
 -- its lines after a request
 unfoldable pub after : ℕ → List Line → Request → List Line
 after size ls empty = accepted (firstOf (judgedEmpty size)) [] ls
-after size ls (file c f) = accepted (firstOf (judgedFile size ls c)) (ls ++ (record { case = c; figures = f } ∷ [])) ls
+after size ls (file o f) = accepted (firstOf (judgedFile size ls o)) (ls ++ (lineWith o f ∷ [])) ls
 after size ls (show k) = ls
 after size ls (worst m) = ls
 

@@ -36,7 +36,7 @@ file-spec =
     let i = n .before .before .before in
     let h = free-facts _ _ _ (sym (i .before .file-refusal .ensures) ∙ i .if1 .left) in
     let e = n .count-at .ensures in
-    (case-size _ (h .within-ranges), omega (arith, h .sound .length-is, h .room), omega (arith, h .fewer)))
+    (case-size _ (h .within .case-within), omega (arith, h .sound .length-is, h .room), omega (arith, h .fewer)))
     (λ c.
     let i = c .before .before .before .before .before .before .before in
     let h = free-facts _ _ _ (sym (i .before .file-refusal .ensures) ∙ i .if1 .left) in
