@@ -12,12 +12,12 @@ use Rattle.records.specs.Layout.{usedLength, mostRecords, recordSize}
 use Rattle.records.specs.Buffer.{countAt}
 use Rattle.records.proofs.Trailer.{Sound, sound-facts}
 use Rattle.archive.specs.Offers.{Offer, Within}
-use Rattle.archive.specs.Archive.{showRefusals, showRefusal, fromState, fileRefusal, filing, fileBytes}
-use Rattle.archive.specs.Answers.{ofFiling, fileAnswer}
+use Rattle.archive.specs.Answers.{ofFiling}
+use Rattle.archive.specs.Archive.{showRefusals, showRefusal, fromState, fileRefusal, fileAnswer, fileBytes, filing}
 use Rattle.archive.specs.declared.Filing.the-variants.{Filed, Refused}
 use Rattle.scenario.proofs.Refusals.{none-holds}
-use Rattle.archive.proofs.AnswerLaws.{of-filing}
-use Rattle.archive.proofs.Refusals.{full-exactly, both-zero, file-refusal-is, accepted-refused}
+use Rattle.archive.proofs.AnswerLaws.{accepted-refused, of-filing}
+use Rattle.archive.proofs.Refusals.{full-exactly, both-zero, file-refusal-is}
 
 -- ── show that is not refused
 

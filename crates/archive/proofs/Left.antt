@@ -1,4 +1,4 @@
--- What is left of the buffer by an accepted empty, `empty-left`, and by an accepted filing, `file-left`, in plain numbers: what is written, and that every other byte is as it was.
+-- What is left of the buffer by an accepted empty, `empty-left`, and by an accepted filing, `file-left`, in plain numbers and by what it answers: what is written, and that every other byte is as it was.
 -- Each field of the table of records that file writes: `filed-field`.
 use mathlib.Core.Path.{_≡_, refl, sym, ap, _∙_}
 use mathlib.Core.List.{List, [], _∷_, _++_}
@@ -12,14 +12,15 @@ use Rattle.binary64.specs.Bytes.{bytesOf, splice}
 use Rattle.binary64.proofs.Splice.{length-splice, splice-read, splice-before, splice-behind}
 use Rattle.scenario.proofs.Refusals.{none-holds}
 use Rattle.emission.specs.Figures.{figuresOf}
-use Rattle.records.specs.Layout.{recordOf, trailer, recordSize, edition, bytesAt}
+use Rattle.records.specs.Layout.{recordOf, trailer, usedLength, recordSize, edition, bytesAt}
 use Rattle.records.specs.Fields.{given, figureAt, fields, noField, fieldBytes}
 use Rattle.records.specs.Buffer.{countAt, written}
 use Rattle.records.proofs.Writing.{length-trailer}
 use Rattle.records.proofs.RecordLaws.{Sized, length-recordOf, part-take, part-drop}
 use Rattle.records.proofs.FieldTable.{written-at, written-field}
 use Rattle.archive.specs.Offers.{Offer}
-use Rattle.archive.specs.Archive.{emptyRefusals, emptyRefusal, emptyBytes, fileRefusal, lineFor, fileBytes}
+use Rattle.archive.specs.Answers.{start, entry, emptied, filed}
+use Rattle.archive.specs.Archive.{emptyRefusals, emptyRefusal, emptyAnswer, emptyBytes, fileRefusal, lineFor, fileAnswer, fileBytes}
 use Rattle.archive.specs.Left.{LeftByEmpty, LeftByFile}
 use Rattle.archive.proofs.Cases.{case-size, sized-line}
 use Rattle.archive.proofs.Accepted.{free-facts}
@@ -49,8 +50,15 @@ module _ (b : List ℕ) (e : emptyRefusal b ≡ 0) where
   unfolding emptyBytes splice trailer bytesOf
   emptied-trailer = rw e
 
-  pub empty-left : LeftByEmpty b (emptyBytes b)
-  empty-left = record { size = emptied-size; trailer = emptied-trailer; behind = emptied-behind }
+  emptied-left : LeftByEmpty b (emptyBytes b)
+  emptied-left = record { size = emptied-size; trailer = emptied-trailer; behind = emptied-behind }
+
+pub empty-left : (b : List ℕ) (v : ℕ) → emptied 0 v ≡ emptyAnswer b → (v ≡ 16) × LeftByEmpty b (emptyBytes b)
+unfolding emptyAnswer
+empty-left b v e =
+    let z : emptyRefusal b ≡ 0 = λ i. sym e i .refusal in
+    let p : start v ≡ start 16 = (λ i. e i .places) ∙ rw z in
+    (cc p, emptied-left b z)
 
 -- ── file
 
@@ -102,8 +110,8 @@ module _ (b : List ℕ) (u : ℕ) (o : Offer) (e : fileRefusal b u o ≡ 0) wher
       let p : 96 * (n + 1) ≡ 96 * n + 96 = omega arith in
       rw (e, part-read b (96 * n) vs 96 16 (omega (arith, fits)) (omega (arith, length-vs)), drop-at r (trailer recordSize edition (n + 1)) 96 (length-recordOf (lineFor o) sized), take-all 16 (trailer recordSize edition (n + 1)) (omega (arith, length-trailer recordSize edition (n + 1))), p)
 
-  pub file-left : LeftByFile (countAt b u) o b (fileBytes b u o)
-  file-left = record { size = filed-size; before = filed-before; case = filed-case; figures = filed-figures; trailer = filed-trailer; behind = filed-behind }
+  filed-left : LeftByFile (countAt b u) o b (fileBytes b u o)
+  filed-left = record { size = filed-size; before = filed-before; case = filed-case; figures = filed-figures; trailer = filed-trailer; behind = filed-behind }
 
   -- each field of the table stands at its offset in the record that is written
   pub filed-field : (k : ℕ) → k < length fields
@@ -111,3 +119,12 @@ module _ (b : List ℕ) (u : ℕ) (o : Offer) (e : fileRefusal b u o ≡ 0) wher
       bytesAt (fileBytes b u o) (recordSize * countAt b u + f .offset) (f .width) ≡ fieldBytes (lineFor o) (f .offset) (f .width) (f .source)
   unfolding fileBytes
   filed-field k h = rw e (written-field b (countAt b u) (lineFor o) sized (omega (arith, fits)) k h)
+
+pub file-left : (b : List ℕ) (u : ℕ) (o : Offer) (n v : ℕ) → filed 0 n v ≡ fileAnswer b u o → (v ≡ 96 * n + 112) × LeftByFile n o b (fileBytes b u o)
+unfolding fileAnswer
+file-left b u o n v e =
+    let z : fileRefusal b u o ≡ 0 = λ i. sym e i .refusal in
+    let p : entry n v ≡ entry (countAt b u) (usedLength recordSize (countAt b u + 1)) = (λ i. e i .places) ∙ rw z in
+    let m : n ≡ countAt b u = cc p in
+    let q : v ≡ usedLength recordSize (countAt b u + 1) = cc p in
+    (omega (arith, m, q), rw m (filed-left b u o z))

@@ -5,8 +5,8 @@ ghost use lib.ListN.{length};
 ghost use Rattle.scenario.specs.Refusal.{firstOf};
 ghost use Rattle.scenario.specs.Case.{refusalOf};
 ghost use Rattle.archive.specs.Offers.{offer};
-ghost use Rattle.archive.specs.Archive.{emptying, emptyBytes, fromState, filing, fileBytes, fileRefusal, showRefusal, showPart, naming, isRecord, recordFigures};
-ghost use Rattle.archive.specs.Answers.{ofEmptied, ofFiling, ofHighest, emptyAnswer, fileAnswer, worstAnswer};
+ghost use Rattle.archive.specs.Answers.{ofEmptied, ofFiling, ofHighest};
+ghost use Rattle.archive.specs.Archive.{emptyAnswer, emptyBytes, emptying, fromState, fileRefusal, fileAnswer, fileBytes, filing, showRefusal, showPart, worstAnswer, naming, isRecord, recordFigures};
 use emission::work_out;
 use records::search;
 

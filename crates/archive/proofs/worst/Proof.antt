@@ -6,8 +6,8 @@ use borrow.Author.Needs.{needs}
 use borrow.Author.Tests.{eq-eqb, ne-eqb}
 use Rattle.records.specs.Layout.{firstLines, recordSize}
 use Rattle.records.specs.Lines.{worstOf}
-use Rattle.archive.specs.Archive.{worstRefusals, naming}
-use Rattle.archive.specs.Answers.{named, worstAnswer}
+use Rattle.archive.specs.Answers.{named}
+use Rattle.archive.specs.Archive.{worstRefusals, worstAnswer, naming}
 use Rattle.archive.specs.declared.Highest.the-variants.{Number}
 use Rattle.archive.proofs.Refusals.{compartment-within}
 use Rattle.records.proofs.Trailer.{sound-facts}
