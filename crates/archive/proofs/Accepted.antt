@@ -1,5 +1,5 @@
 -- What a call may rely on once it is not refused: `Shown` with `shown-facts`, `Free` with `free-facts`.
--- What file answers: `file-refused`, `file-accepted`; what it leaves is in `Left`.
+-- What file answers and leaves: `file-refused`, `file-accepted`; every byte of it in plain numbers is in `Left`.
 use mathlib.Core.Path.{_≡_, refl, sym, ap, _∙_}
 use mathlib.Core.List.{List}
 use Prim.Native.Nat.{ℕ, _+_, _*_, _-_, _≤_, _<_}
@@ -8,10 +8,11 @@ use borrow.Author.Tests.{leb-false}
 use lib.ListN.{length}
 use Rattle.scenario.specs.Refusal.{firstOf}
 use Rattle.scenario.specs.Case.{refusalOf}
+use Rattle.emission.specs.Figures.{figuresOf}
 use Rattle.records.specs.Layout.{usedLength, mostRecords, recordSize}
-use Rattle.records.specs.Buffer.{countAt}
+use Rattle.records.specs.Buffer.{countAt, written}
 use Rattle.records.proofs.Trailer.{Sound, sound-facts}
-use Rattle.archive.specs.Offers.{Offer, Within}
+use Rattle.archive.specs.Offers.{Offer, Within, lineWith}
 use Rattle.archive.specs.Answers.{ofFiling}
 use Rattle.archive.specs.Archive.{showRefusals, showRefusal, fromState, fileRefusal, fileAnswer, fileBytes, filing}
 use Rattle.archive.specs.declared.Filing.the-variants.{Filed, Refused}
@@ -58,12 +59,11 @@ file-refused b u o r e h =
     let a : Refused r ≡ filing b u o = ap Refused e ∙ sym (accepted-refused (fileRefusal b u o) _ (Refused (fileRefusal b u o)) z) in
     (a, sym (accepted-refused (fileRefusal b u o) _ b z), ap (λ f. ofFiling f u) a ∙ of-filing b u o)
 
--- the answer; the bytes are in `Left`
-pub file-accepted : (b : List ℕ) (u : ℕ) (o : Offer) {n : ℕ} → fileRefusal b u o ≡ 0 → n ≡ countAt b u
-    → (Filed n (u + recordSize) ≡ filing b u o) × (ofFiling (Filed n (u + recordSize)) u ≡ fileAnswer b u o)
-unfolding filing
-file-accepted b u o {n} e m =
+pub file-accepted : (b : List ℕ) (u : ℕ) (o : Offer) {n : ℕ} {f b′ : List ℕ} → fileRefusal b u o ≡ 0 → n ≡ countAt b u → f ≡ figuresOf (o .case) → b′ ≡ written b n (lineWith o f)
+    → (Filed n (u + recordSize) ≡ filing b u o) × (b′ ≡ fileBytes b u o) × (ofFiling (Filed n (u + recordSize)) u ≡ fileAnswer b u o)
+unfolding filing fileBytes
+file-accepted b u o {n} e m g w =
     let h = free-facts b u o e in
     let z : u + recordSize ≡ usedLength recordSize (countAt b u + 1) = omega (arith, h .sound .length-is) in
     let a : Filed n (u + recordSize) ≡ filing b u o = rw (e, z, m) in
-    (a, ap (λ f. ofFiling f u) a ∙ of-filing b u o)
+    (a, w ∙ rw (e, m, g), ap (λ f. ofFiling f u) a ∙ of-filing b u o)
