@@ -27,16 +27,16 @@ use Rattle.archive.specs.declared.Highest.the-variants.{Number, Refused 
 unfoldable pub emptyRefusals : List ℕ → List Condition
 emptyRefusals b = (23 when ltb (length b) trailerSize) ∷ []
 
-abbrev pub emptyEffect : List ℕ → Effect (List ℕ)
+unfoldable pub emptyEffect : List ℕ → Effect (List ℕ)
 emptyEffect b = record { refusals = emptyRefusals b; gives = start trailerSize; leaves = splice b 0 (trailer recordSize edition 0); beside = start 0 }
 
 abbrev pub emptyRefusal : List ℕ → ℕ
 emptyRefusal b = firstOf (emptyRefusals b)
 
-unfoldable pub emptyAnswer : List ℕ → Answer
+abbrev pub emptyAnswer : List ℕ → Answer
 emptyAnswer b = answerBy (emptyEffect b)
 
-unfoldable pub emptyBytes : List ℕ → List ℕ
+abbrev pub emptyBytes : List ℕ → List ℕ
 emptyBytes b = leftBy (emptyEffect b) b
 
 unfoldable pub emptying : List ℕ → Emptied
@@ -55,7 +55,7 @@ fileRefusals b u o = refusals (o .case) ++ fromState b u o
 abbrev pub lineFor : Offer → Line
 lineFor o = lineWith o (figuresOf (o .case))
 
-abbrev pub fileEffect : List ℕ → ℕ → Offer → Effect (List ℕ)
+unfoldable pub fileEffect : List ℕ → ℕ → Offer → Effect (List ℕ)
 fileEffect b u o =
     let n = countAt b u in
     record { refusals = fileRefusals b u o; gives = entry n (usedLength recordSize (n + 1)); leaves = written b n (lineFor o); beside = entry 0 u }
@@ -63,10 +63,10 @@ fileEffect b u o =
 abbrev pub fileRefusal : List ℕ → ℕ → Offer → ℕ
 fileRefusal b u o = firstOf (fileRefusals b u o)
 
-unfoldable pub fileAnswer : List ℕ → ℕ → Offer → Answer
+abbrev pub fileAnswer : List ℕ → ℕ → Offer → Answer
 fileAnswer b u o = answerBy (fileEffect b u o)
 
-unfoldable pub fileBytes : List ℕ → ℕ → Offer → List ℕ
+abbrev pub fileBytes : List ℕ → ℕ → Offer → List ℕ
 fileBytes b u o = leftBy (fileEffect b u o) b
 
 unfoldable pub filing : List ℕ → ℕ → Offer → Filing
@@ -80,7 +80,7 @@ filing b u o =
 unfoldable pub showRefusals : List ℕ → ℕ → ℕ → List Condition
 showRefusals b u k = (21 when broken b u) ∷ (24 when leb (countAt b u) k) ∷ []
 
-abbrev pub showEffect : List ℕ → ℕ → ℕ → Effect (List ℕ)
+unfoldable pub showEffect : List ℕ → ℕ → ℕ → Effect (List ℕ)
 showEffect b u k = record { refusals = showRefusals b u k; gives = part (bytesAt b (recordSize * k) recordSize); leaves = b; beside = part [] }
 
 abbrev pub showRefusal : List ℕ → ℕ → ℕ → ℕ
@@ -94,13 +94,13 @@ showPart b u k = accepted (showRefusal b u k) (bytesAt b (recordSize * k) record
 unfoldable pub worstRefusals : List ℕ → ℕ → ℕ → List Condition
 worstRefusals b u m = (12 when notCompartment m) ∷ (21 when broken b u) ∷ (24 when eqb (countAt b u) 0) ∷ []
 
-abbrev pub worstEffect : List ℕ → ℕ → ℕ → Effect (List ℕ)
+unfoldable pub worstEffect : List ℕ → ℕ → ℕ → Effect (List ℕ)
 worstEffect b u m = record { refusals = worstRefusals b u m; gives = line (worstOf m (linesIn b u)); leaves = b; beside = line 0 }
 
 abbrev pub worstRefusal : List ℕ → ℕ → ℕ → ℕ
 worstRefusal b u m = firstOf (worstRefusals b u m)
 
-unfoldable pub worstAnswer : List ℕ → ℕ → ℕ → Answer
+abbrev pub worstAnswer : List ℕ → ℕ → ℕ → Answer
 worstAnswer b u m = answerBy (worstEffect b u m)
 
 unfoldable pub naming : List ℕ → ℕ → ℕ → Highest

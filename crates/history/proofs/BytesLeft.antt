@@ -3,7 +3,6 @@
 use mathlib.Core.Path.{sym, _∙_}
 use mathlib.Core.List.{List}
 use Prim.Native.Nat.{ℕ}
-use Rattle.archive.specs.Archive.{emptyAnswer, emptyBytes, fileAnswer, fileBytes}
 use Rattle.archive.proofs.Left.{empty-left, file-left}
 use Rattle.history.specs.Seen.{Way, SeenLeft}
 use Rattle.history.specs.Calls.{ArchiveCall, archiveSeen}
@@ -13,7 +12,6 @@ use Rattle.history.proofs.Demand1.{way-unchanged}
 use Rattle.history.proofs.Interface.{c-lawful}
 
 pub way-left : {W : Way} (l : Lawful W) (call : W .Call) (u : ℕ) (f : List ℕ) → SeenLeft (W .seen call u f)
-unfolding emptyAnswer emptyBytes fileAnswer fileBytes
 way-left {W} l call u f =
     let s = W .seen call u f in
     let d = l .does call u f in

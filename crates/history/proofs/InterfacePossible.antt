@@ -1,5 +1,5 @@
 -- That there are such calls of the C interface, and histories of them: `c-history-can`. The functions meet the contracts that such a call goes by: `c-met`.
-use mathlib.Core.Path.{_≡_, refl, sym, ap, _∙_}
+use mathlib.Core.Path.{_≡_, refl, ap}
 use mathlib.Core.List.{List, []}
 use Prim.Native.Nat.{ℕ, zero, suc, _+_, _*_, _≤_}
 use base.Fml.{Lft}
@@ -10,9 +10,9 @@ use Rattle.records.specs.Layout.{trailerSize, usedLength, recordSize, bytesAt}
 use Rattle.records.specs.Lines.{worstOf}
 use Rattle.records.specs.Buffer.{countAt, linesIn}
 use Rattle.archive.specs.Conditions.{accepted}
-use Rattle.archive.specs.Answers.{start, entry, line, answering, shown}
-use Rattle.archive.specs.Archive.{emptyRefusal, emptyAnswer, emptyBytes, fileRefusal, fileAnswer, fileBytes, showRefusal, showPart, worstRefusal, worstAnswer}
-use Rattle.archive.proofs.AnswerLaws.{accepted-same, accepted-map, of-showing}
+use Rattle.archive.specs.Answers.{start, entry, line, answering}
+use Rattle.archive.specs.Archive.{emptyEffect, emptyRefusal, emptyBytes, fileEffect, fileRefusal, fileBytes, showRefusal, showPart, worstEffect, worstRefusal}
+use Rattle.archive.proofs.AnswerLaws.{accepted-map}
 use Rattle.csorvelin.specs.Place.{startShown, lengthShown}
 use Rattle.csorvelin.proofs.csorvelin_work_out.Met as work-out-met
 use Rattle.csorvelin.proofs.csorvelin_work_out.Statement as work-out-statement
@@ -25,10 +25,10 @@ use Rattle.csorvelin.proofs.csorvelin_show.Statement as show-statement
 use Rattle.csorvelin.proofs.csorvelin_worst.Met as worst-met
 use Rattle.csorvelin.proofs.csorvelin_worst.Statement as worst-statement
 use Rattle.history.specs.Ledger.{Request, empty, file, show, worst}
-use Rattle.history.specs.Seen.{seeing}
 use Rattle.history.specs.History.{FedBy, TurnBy, AllFed, HistoryOf}
 use Rattle.history.specs.Interface.{empties, files, shows, names, CWorkedOut, fromC, CTurn}
-use Rattle.history.proofs.Possible.{told, left, Can, history-by, lent}
+use Rattle.history.proofs.Possible.{told, left, made, Can, history-by, lent}
+use Rattle.history.proofs.Interface.{c-lawful}
 
 -- ── that there are such calls and histories
 
@@ -37,60 +37,41 @@ module _ (κ : Lft) where
   shown-place b k zero = refl
   shown-place b k (suc r) = refl
 
-  -- by its effect each place of an answer is a number that is given without a refusal, or the one beside it
+  -- each place of an answer is the number that is given without a refusal, or the one beside it
   c-turn-can : (c : Request) → FedBy CWorkedOut c → (b : List ℕ) (u : ℕ) → TurnBy fromC c b u (told c b u) (left c b u)
-  unfolding lent startShown lengthShown showPart emptyAnswer emptyBytes fileAnswer fileBytes worstAnswer
+  unfolding lent startShown lengthShown showPart emptyEffect fileEffect worstEffect
   c-turn-can empty d b u =
       let r = emptyRefusal b in
       let e = ap (answering r) (accepted-map start r trailerSize 0) in
-      record {
-        call = empties (record { κs = (κ, (κ, tt)); args = (lent b, (lent 0, tt)); result = r; last = (emptyBytes b, (accepted r trailerSize 0, tt)); kept = (e, refl) });
-        figures = [];
-        seen = λ i. seeing empty b u (e i) (left empty b u);
-        fed = d;
-      }
+      made c-lawful (empties (record { κs = (κ, (κ, tt)); args = (lent b, (lent 0, tt)); result = r; last = (emptyBytes b, (accepted r trailerSize 0, tt)); kept = (e, refl) })) u [] refl d
   c-turn-can (file o f) d b u =
       let r = fileRefusal b u o in
       let n = countAt b u in
       let x : ℕ × ℕ = accepted r (n, usedLength recordSize (n + 1)) (0, u) in
       let e = ap (answering r) (accepted-map (λ (y : ℕ × ℕ). entry (y .0) (y .1)) r (n, usedLength recordSize (n + 1)) (0, u)) in
-      record {
-        call = files (record {
-          κs = (κ, (κ, (κ, (κ, tt))));
-          args = (lent b, (lent u, (lent (o .case), (lent 0, tt))));
-          result = r;
-          last = (fileBytes b u o, (x .1, (tt, (x .0, tt))));
-          kept = (e, refl);
-        });
-        figures = f;
-        seen = λ i. seeing (file o f) b u (e i) (left (file o f) b u);
-        fed = d;
-      }
+      made c-lawful
+      (files (record {
+        κs = (κ, (κ, (κ, (κ, tt))));
+        args = (lent b, (lent u, (lent (o .case), (lent 0, tt))));
+        result = r;
+        last = (fileBytes b u o, (x .1, (tt, (x .0, tt))));
+        kept = (e, refl);
+      })) u f refl d
   c-turn-can (show k) d b u =
       let r = showRefusal b u k in
-      let p = shown-place b k r in
-      record {
-        call = shows (record {
-          κs = (κ, (κ, (κ, tt)));
-          args = (lent b, (u, (k, (lent 0, (lent 0, tt)))));
-          result = r;
-          last = (tt, (tt, (tt, (startShown b u k, (lengthShown b u k, tt)))));
-          kept = (refl, refl, refl, p);
-        });
-        figures = [];
-        seen = λ i. seeing (show k) b u ((ap (shown r) p ∙ of-showing b u k) i) (sym (accepted-same r b) i);
-        fed = d;
-      }
+      made c-lawful
+      (shows (record {
+        κs = (κ, (κ, (κ, tt)));
+        args = (lent b, (u, (k, (lent 0, (lent 0, tt)))));
+        result = r;
+        last = (tt, (tt, (tt, (startShown b u k, (lengthShown b u k, tt)))));
+        kept = (refl, refl, refl, shown-place b k r);
+      })) u [] refl d
   c-turn-can (worst m) d b u =
       let r = worstRefusal b u m in
       let w = worstOf m (linesIn b u) in
       let e = ap (answering r) (accepted-map line r w 0) in
-      record {
-        call = names (record { κs = (κ, (κ, tt)); args = (lent b, (u, (m, (lent 0, tt)))); result = r; last = (tt, (tt, (tt, (accepted r w 0, tt)))); kept = e });
-        figures = [];
-        seen = λ i. seeing (worst m) b u (e i) (sym (accepted-same r b) i);
-        fed = d;
-      }
+      made c-lawful (names (record { κs = (κ, (κ, tt)); args = (lent b, (u, (m, (lent 0, tt)))); result = r; last = (tt, (tt, (tt, (accepted r w 0, tt)))); kept = e })) u [] refl d
 
   c-can : Can fromC
   unfolding lent

@@ -1,6 +1,6 @@
 -- That there are such calls, runs and histories: each request can be made on any buffer at any used length, with the answer and the bytes of its effect (`direct-can`),
 -- so every list of requests has a run (`run-can`), and a history from every buffer of 16 bytes or more (`history-can`). Of any way of which this is so: `run-by`, `history-by`.
-use mathlib.Core.Path.{_≡_, refl, sym}
+use mathlib.Core.Path.{_≡_, refl}
 use mathlib.Core.List.{List, [], _∷_}
 use Prim.Native.Nat.{ℕ, _≤_}
 use base.Fml.{Lft}
@@ -10,13 +10,13 @@ use lib.ListN.{length}
 use Rattle.scenario.specs.Case.{refusalOf}
 use Rattle.emission.specs.Figures.{figuresOf}
 use Rattle.archive.specs.Answers.{Answer, emptied, handed, answerBy, leftBy}
-use Rattle.archive.specs.Archive.{emptyRefusals, emptyAnswer, emptyBytes, emptying, fileAnswer, fileBytes, filing, showRefusal, showPart, worstRefusal, worstAnswer, naming}
-use Rattle.archive.proofs.AnswerLaws.{accepted-same, of-emptying, of-filing, of-showing, of-naming}
+use Rattle.archive.specs.Archive.{emptyRefusals, emptyEffect, emptyBytes, emptying, fileBytes, filing, showRefusal, showPart, naming}
+use Rattle.archive.proofs.AnswerLaws.{of-emptying, of-filing, of-naming}
 use Rattle.history.specs.Ledger.{Request, empty, file, show, worst}
 use Rattle.history.specs.Seen.{effect, seeing, Way}
 use Rattle.history.specs.Calls.{empties, files, shows, names, WorkedOut, direct}
 use Rattle.history.specs.History.{FedBy, TurnBy, Turn, done, next, begins, AllFed, RunOf, HistoryOf}
-use Rattle.history.proofs.Lawful.{fed-map}
+use Rattle.history.proofs.Lawful.{Lawful, fed-map, turn-does, direct-lawful}
 
 -- ── lists of calls from single ones
 
@@ -25,6 +25,15 @@ told c b u = answerBy (effect c b u)
 
 abbrev pub left : Request → List ℕ → ℕ → List ℕ
 left c b u = leftBy (effect c b u) b
+
+-- a call by a lawful way is a turn with that answer and those bytes
+pub made : {W : Way} (l : Lawful W) (call : W .Call) (u : ℕ) (f : List ℕ)
+    → let s = W .seen call u f in
+    s .used ≡ u → FedBy (W .WorkedOut) (s .request) → TurnBy W (s .request) (s .before) u (told (s .request) (s .before) u) (left (s .request) (s .before) u)
+made {W} l call u f e d =
+    let s = W .seen call u f in
+    let t : TurnBy W (s .request) (s .before) u (s .answer) (s .after) = record { call = call; figures = f; seen = λ i. seeing (s .request) (s .before) (e i) (s .answer) (s .after); fed = d } in
+    rw (turn-does l t .answer-is, turn-does l t .after-is) at t
 
 -- each request can be made on any buffer, with the answer and the bytes of its effect; and figures can be worked out
 pub record Can (W : Way) : Type 0 where
@@ -41,7 +50,7 @@ module _ {W : Way} (can : Can W) where
 
   -- behind an empty that is accepted
   pub history-by : (cs : List Request) → AllFed cs → (b : List ℕ) → 16 ≤ length b → HistoryOf (TurnBy W) b cs
-  unfolding emptyRefusals
+  unfolding emptyRefusals emptyEffect
   history-by cs d b h =
       let r = run-by cs d (left empty b 0) 16 in
       let e : told empty b 0 ≡ emptied 0 16 = rw (le-ltb (length b) 16 h) in
@@ -56,33 +65,18 @@ lent x = record { ptr = (0, 0); name = 0; now = x }
 
 module _ (κ : Lft) where
   direct-turn : (c : Request) → FedBy WorkedOut c → (b : List ℕ) (u : ℕ) → TurnBy direct c b u (told c b u) (left c b u)
-  unfolding lent emptyAnswer emptyBytes fileAnswer fileBytes worstAnswer
-  direct-turn empty d b u = record {
-    call = empties (record { κs = (κ, tt); args = (lent b, tt); result = emptying b; last = (emptyBytes b, tt); kept = (refl, refl, of-emptying b) });
-    figures = [];
-    seen = λ i. seeing empty b u (of-emptying b i) (left empty b u);
-    fed = d;
-  }
-  direct-turn (file o f) d b u = record {
-    call = files (record { κs = (κ, (κ, tt)); args = (lent b, (u, (lent (o .case), tt))); result = filing b u o; last = (fileBytes b u o, (tt, (tt, tt))); kept = (refl, refl, of-filing b u o) });
-    figures = f;
-    seen = λ i. seeing (file o f) b u (of-filing b u o i) (left (file o f) b u);
-    fed = d;
-  }
-  direct-turn (show k) d b u = record {
-    call = shows (record { κs = (κ, tt); args = (lent b, (u, (k, tt))); result = lent (showPart b u k); last = (tt, (tt, (tt, tt))); kept = refl })
-        (record { κs = (κ, tt); args = (lent b, (u, (k, tt))); result = showRefusal b u k; last = (tt, (tt, (tt, tt))); kept = refl })
-        (record { archive = refl; used = refl; number = refl });
-    figures = [];
-    seen = λ i. seeing (show k) b u (of-showing b u k i) (sym (accepted-same (showRefusal b u k) b) i);
-    fed = d;
-  }
-  direct-turn (worst m) d b u = record {
-    call = names (record { κs = (κ, tt); args = (lent b, (u, (m, tt))); result = naming b u m; last = (tt, (tt, (tt, tt))); kept = (refl, of-naming b u m) });
-    figures = [];
-    seen = λ i. seeing (worst m) b u (of-naming b u m i) (sym (accepted-same (worstRefusal b u m) b) i);
-    fed = d;
-  }
+  unfolding lent
+  direct-turn empty d b u = made direct-lawful (empties (record { κs = (κ, tt); args = (lent b, tt); result = emptying b; last = (emptyBytes b, tt); kept = (refl, refl, of-emptying b) })) u [] refl d
+  direct-turn (file o f) d b u =
+      made direct-lawful
+      (files (record { κs = (κ, (κ, tt)); args = (lent b, (u, (lent (o .case), tt))); result = filing b u o; last = (fileBytes b u o, (tt, (tt, tt))); kept = (refl, refl, of-filing b u o) })) u f refl d
+  direct-turn (show k) d b u =
+      made direct-lawful
+      (shows (record { κs = (κ, tt); args = (lent b, (u, (k, tt))); result = lent (showPart b u k); last = (tt, (tt, (tt, tt))); kept = refl })
+      (record { κs = (κ, tt); args = (lent b, (u, (k, tt))); result = showRefusal b u k; last = (tt, (tt, (tt, tt))); kept = refl })
+      (record { archive = refl; used = refl; number = refl })) u [] refl d
+  direct-turn (worst m) d b u =
+      made direct-lawful (names (record { κs = (κ, tt); args = (lent b, (u, (m, tt))); result = naming b u m; last = (tt, (tt, (tt, tt))); kept = (refl, of-naming b u m) })) u [] refl d
 
   pub direct-can : Can direct
   unfolding lent
