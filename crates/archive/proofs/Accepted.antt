@@ -14,7 +14,7 @@ use Rattle.records.specs.Buffer.{countAt, written}
 use Rattle.records.proofs.Trailer.{Sound, sound-facts}
 use Rattle.archive.specs.Offers.{Offer, Within, lineWith}
 use Rattle.archive.specs.Answers.{ofFiling}
-use Rattle.archive.specs.Archive.{showRefusals, showRefusal, fromState, fileEffect, fileRefusal, fileAnswer, fileBytes, filing}
+use Rattle.archive.specs.Archive.{showRefusals, showRefusal, fromState, fileRefusal, fileAnswer, fileBytes, filing}
 use Rattle.archive.specs.declared.Filing.the-variants.{Filed, Refused}
 use Rattle.scenario.proofs.Refusals.{none-holds}
 use Rattle.archive.proofs.AnswerLaws.{accepted-refused, of-filing}
@@ -53,7 +53,7 @@ free-facts b u o e =
 
 pub file-refused : (b : List ℕ) (u : ℕ) (o : Offer) (r : ℕ) → r ≡ fileRefusal b u o → (r ≡ 0 → ⊥)
     → (Refused r ≡ filing b u o) × (b ≡ fileBytes b u o) × (ofFiling (Refused r) u ≡ fileAnswer b u o)
-unfolding filing fileEffect
+unfolding filing
 file-refused b u o r e h =
     let z : fileRefusal b u o ≡ 0 → ⊥ = λ q. h (e ∙ q) in
     let a : Refused r ≡ filing b u o = ap Refused e ∙ sym (accepted-refused (fileRefusal b u o) _ (Refused (fileRefusal b u o)) z) in
@@ -61,7 +61,7 @@ file-refused b u o r e h =
 
 pub file-accepted : (b : List ℕ) (u : ℕ) (o : Offer) {n : ℕ} {f b′ : List ℕ} → fileRefusal b u o ≡ 0 → n ≡ countAt b u → f ≡ figuresOf (o .case) → b′ ≡ written b n (lineWith o f)
     → (Filed n (u + recordSize) ≡ filing b u o) × (b′ ≡ fileBytes b u o) × (ofFiling (Filed n (u + recordSize)) u ≡ fileAnswer b u o)
-unfolding filing fileEffect
+unfolding filing
 file-accepted b u o {n} e m g w =
     let h = free-facts b u o e in
     let z : u + recordSize ≡ usedLength recordSize (countAt b u + 1) = omega (arith, h .sound .length-is) in

@@ -6,7 +6,7 @@ use Prim.Native.Nat.{ℕ, zero, suc}
 use Rattle.archive.specs.Conditions.{accepted}
 use Rattle.archive.specs.Offers.{Offer}
 use Rattle.archive.specs.Answers.{Places, part, Answer, answering, shown, ofEmptied, ofFiling, ofHighest, Effect, refusalBy, answerBy}
-use Rattle.archive.specs.Archive.{emptyEffect, emptyRefusal, emptyAnswer, emptying, fileEffect, fileRefusal, fileAnswer, filing, showEffect, showRefusal, showPart, worstEffect, worstRefusal, worstAnswer, naming}
+use Rattle.archive.specs.Archive.{emptyRefusal, emptyAnswer, emptying, fileRefusal, fileAnswer, filing, showEffect, showRefusal, showPart, worstRefusal, worstAnswer, naming}
 
 -- ── by the refusal
 
@@ -37,17 +37,17 @@ same-answer e f q g s = rw q (ap (answering (refusalBy f)) (go (refusalBy f) g))
 -- ── of the calls
 
 pub of-emptying : (b : List ℕ) → ofEmptied (emptying b) ≡ emptyAnswer b
-unfolding emptying emptyEffect
+unfolding emptying
 of-emptying b = told-as ofEmptied (emptyRefusal b) _ _ _ _ refl refl
 
 pub of-filing : (b : List ℕ) (u : ℕ) (o : Offer) → ofFiling (filing b u o) u ≡ fileAnswer b u o
-unfolding filing fileEffect
+unfolding filing
 of-filing b u o = told-as (λ a. ofFiling a u) (fileRefusal b u o) _ _ _ _ refl refl
 
 pub of-showing : (b : List ℕ) (u k : ℕ) → shown (showRefusal b u k) (showPart b u k) ≡ answerBy (showEffect b u k)
-unfolding showPart showEffect
+unfolding showPart
 of-showing b u k = ap (answering (showRefusal b u k)) (accepted-map part (showRefusal b u k) _ [])
 
 pub of-naming : (b : List ℕ) (u m : ℕ) → ofHighest (naming b u m) ≡ worstAnswer b u m
-unfolding naming worstEffect
+unfolding naming
 of-naming b u m = told-as ofHighest (worstRefusal b u m) _ _ _ _ refl refl

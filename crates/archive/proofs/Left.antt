@@ -20,7 +20,7 @@ use Rattle.records.proofs.RecordLaws.{Sized, length-recordOf, part-take, part-d
 use Rattle.records.proofs.FieldTable.{written-at, written-field}
 use Rattle.archive.specs.Offers.{Offer}
 use Rattle.archive.specs.Answers.{start, entry, emptied, filed}
-use Rattle.archive.specs.Archive.{emptyRefusals, emptyEffect, emptyRefusal, emptyAnswer, emptyBytes, fileEffect, fileRefusal, lineFor, fileAnswer, fileBytes}
+use Rattle.archive.specs.Archive.{emptyRefusals, emptyRefusal, emptyAnswer, emptyBytes, fileRefusal, lineFor, fileAnswer, fileBytes}
 use Rattle.archive.specs.Left.{LeftByEmpty, LeftByFile}
 use Rattle.archive.proofs.Cases.{case-size, sized-line}
 use Rattle.archive.proofs.Accepted.{free-facts}
@@ -39,22 +39,21 @@ module _ (b : List ℕ) (e : emptyRefusal b ≡ 0) where
   room = ltb-false _ _ (none-holds (emptyRefusals b) refl e 0)
 
   emptied-behind : (i : ℕ) → 16 ≤ i → getD (emptyBytes b) i 0 ≡ getD b i 0
-  unfolding emptyEffect trailer bytesOf
+  unfolding trailer bytesOf
   emptied-behind i h = rw e (splice-behind b _ _ (omega (arith, room)) i (omega (arith, room)))
 
   emptied-size : length (emptyBytes b) ≡ length b
-  unfolding emptyEffect trailer bytesOf
+  unfolding trailer bytesOf
   emptied-size = rw e (length-splice b _ _ (omega (arith, room)))
 
   emptied-trailer : take 16 (emptyBytes b) ≡ 0 ∷ 0 ∷ 0 ∷ 0 ∷ 0 ∷ 0 ∷ 0 ∷ 0 ∷ 0 ∷ 0 ∷ 0 ∷ 0 ∷ 1 ∷ 0 ∷ 0 ∷ 0 ∷ []
-  unfolding emptyEffect splice trailer bytesOf
+  unfolding splice trailer bytesOf
   emptied-trailer = rw e
 
   emptied-left : LeftByEmpty b (emptyBytes b)
   emptied-left = record { size = emptied-size; trailer = emptied-trailer; behind = emptied-behind }
 
 pub empty-left : (b : List ℕ) (v : ℕ) → emptied 0 v ≡ emptyAnswer b → (v ≡ 16) × LeftByEmpty b (emptyBytes b)
-unfolding emptyEffect
 empty-left b v e =
     let z : emptyRefusal b ≡ 0 = λ i. sym e i .refusal in
     let p : start v ≡ start 16 = (λ i. e i .places) ∙ rw z in
@@ -80,31 +79,29 @@ module _ (b : List ℕ) (u : ℕ) (o : Offer) (e : fileRefusal b u o ≡ 0) wher
   fits = let f = free-facts b u o e in omega (arith, f .sound .length-is, f .room)
 
   filed-before : (i : ℕ) → i < 96 * n → getD (fileBytes b u o) i 0 ≡ getD b i 0
-  unfolding fileEffect written
+  unfolding written
   filed-before i h = rw e (splice-before b _ _ (omega (arith, fits)) i (omega arith))
 
   filed-behind : (i : ℕ) → 96 * n + 112 ≤ i → getD (fileBytes b u o) i 0 ≡ getD b i 0
-  unfolding fileEffect written
+  unfolding written
   filed-behind i h = rw e (splice-behind b _ _ (omega (arith, fits)) i (omega (arith, length-vs)))
 
   filed-size : length (fileBytes b u o) ≡ length b
-  unfolding fileEffect written
+  unfolding written
   filed-size = rw e (length-splice b (96 * n) vs (omega (arith, length-vs, fits)))
 
   filed-case : bytesAt (fileBytes b u o) (96 * n) 64 ≡ o .case
-  unfolding fileEffect
   filed-case =
       let l = case-size (o .case) (free-facts b u o e .within .case-within) in
       rw e (ap (λ (k : ℕ). bytesAt (written b n (lineFor o)) k 64) (sym (add-zero (96 * n))) ∙ written-at b n (lineFor o) 0 64 given sized (omega (arith, fits)) (omega arith) ∙ take-all 64 (o .case) (omega arith))
 
   filed-figures : (k : ℕ) → k < 4 → bytesAt (fileBytes b u o) (96 * n + 64 + 8 * k) 8 ≡ bytesOf 8 (getD (figuresOf (o .case)) k 0)
-  unfolding fileEffect
   filed-figures k h =
       let p : 96 * n + 64 + 8 * k ≡ 96 * n + (64 + 8 * k) = omega arith in
       rw (e, p) (written-at b n (lineFor o) (64 + 8 * k) 8 (figureAt k) sized (omega (arith, fits)) (refl, refl, h))
 
   filed-trailer : bytesAt (fileBytes b u o) (96 * n + 96) 16 ≡ bytesOf 8 (96 * n + 96) ++ bytesOf 4 (n + 1) ++ bytesOf 4 1
-  unfolding fileEffect written trailer
+  unfolding written trailer
   filed-trailer =
       let r = recordOf (lineFor o) in
       let p : 96 * (n + 1) ≡ 96 * n + 96 = omega arith in
@@ -117,11 +114,9 @@ module _ (b : List ℕ) (u : ℕ) (o : Offer) (e : fileRefusal b u o ≡ 0) wher
   pub filed-field : (k : ℕ) → k < length fields
       → let f = getD fields k noField in
       bytesAt (fileBytes b u o) (recordSize * countAt b u + f .offset) (f .width) ≡ fieldBytes (lineFor o) (f .offset) (f .width) (f .source)
-  unfolding fileEffect
   filed-field k h = rw e (written-field b (countAt b u) (lineFor o) sized (omega (arith, fits)) k h)
 
 pub file-left : (b : List ℕ) (u : ℕ) (o : Offer) (n v : ℕ) → filed 0 n v ≡ fileAnswer b u o → (v ≡ 96 * n + 112) × LeftByFile n o b (fileBytes b u o)
-unfolding fileEffect
 file-left b u o n v e =
     let z : fileRefusal b u o ≡ 0 = λ i. sym e i .refusal in
     let p : entry n v ≡ entry (countAt b u) (usedLength recordSize (countAt b u + 1)) = (λ i. e i .places) ∙ rw z in

@@ -27,7 +27,7 @@ use Rattle.archive.specs.declared.Highest.the-variants.{Number, Refused 
 unfoldable pub emptyRefusals : List ℕ → List Condition
 emptyRefusals b = (23 when ltb (length b) trailerSize) ∷ []
 
-unfoldable pub emptyEffect : List ℕ → Effect (List ℕ)
+abbrev pub emptyEffect : List ℕ → Effect (List ℕ)
 emptyEffect b = record { refusals = emptyRefusals b; gives = start trailerSize; leaves = splice b 0 (trailer recordSize edition 0); beside = start 0 }
 
 abbrev pub emptyRefusal : List ℕ → ℕ
@@ -55,7 +55,7 @@ fileRefusals b u o = refusals (o .case) ++ fromState b u o
 abbrev pub lineFor : Offer → Line
 lineFor o = lineWith o (figuresOf (o .case))
 
-unfoldable pub fileEffect : List ℕ → ℕ → Offer → Effect (List ℕ)
+abbrev pub fileEffect : List ℕ → ℕ → Offer → Effect (List ℕ)
 fileEffect b u o =
     let n = countAt b u in
     record { refusals = fileRefusals b u o; gives = entry n (usedLength recordSize (n + 1)); leaves = written b n (lineFor o); beside = entry 0 u }
@@ -80,7 +80,7 @@ filing b u o =
 unfoldable pub showRefusals : List ℕ → ℕ → ℕ → List Condition
 showRefusals b u k = (21 when broken b u) ∷ (24 when leb (countAt b u) k) ∷ []
 
-unfoldable pub showEffect : List ℕ → ℕ → ℕ → Effect (List ℕ)
+abbrev pub showEffect : List ℕ → ℕ → ℕ → Effect (List ℕ)
 showEffect b u k = record { refusals = showRefusals b u k; gives = part (bytesAt b (recordSize * k) recordSize); leaves = b; beside = part [] }
 
 abbrev pub showRefusal : List ℕ → ℕ → ℕ → ℕ
@@ -94,7 +94,7 @@ showPart b u k = accepted (showRefusal b u k) (bytesAt b (recordSize * k) record
 unfoldable pub worstRefusals : List ℕ → ℕ → ℕ → List Condition
 worstRefusals b u m = (12 when notCompartment m) ∷ (21 when broken b u) ∷ (24 when eqb (countAt b u) 0) ∷ []
 
-unfoldable pub worstEffect : List ℕ → ℕ → ℕ → Effect (List ℕ)
+abbrev pub worstEffect : List ℕ → ℕ → ℕ → Effect (List ℕ)
 worstEffect b u m = record { refusals = worstRefusals b u m; gives = line (worstOf m (linesIn b u)); leaves = b; beside = line 0 }
 
 abbrev pub worstRefusal : List ℕ → ℕ → ℕ → ℕ

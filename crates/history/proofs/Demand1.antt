@@ -20,7 +20,7 @@ use Rattle.records.proofs.WorstLine.{worst-is-highest}
 use Rattle.emission.specs.Called.{ends}
 use Rattle.emission.proofs.Demand2.{WorkOutCall}
 use Rattle.archive.specs.Answers.{line, named, Effect, refusalBy, answerBy}
-use Rattle.archive.specs.Archive.{emptyEffect, emptying, fileEffect, filing, showEffect, showPart, worstRefusals, worstEffect, worstRefusal, naming}
+use Rattle.archive.specs.Archive.{emptying, filing, showPart, worstRefusals, worstEffect, worstRefusal, naming}
 use Rattle.archive.proofs.AnswerLaws.{accepted-refused}
 use borrow.Fn.Kinds as kinds
 use Rattle.scenario.proofs.decode.Kinds as decode-kinds
@@ -100,7 +100,6 @@ module _ {W : Way} (l : Lawful W) (call : W .Call) (u : ℕ) (f : List ℕ) wher
 
   -- what worst names is the worst record
   pub named-worst : (m k : ℕ) → s .request ≡ worst m → s .answer ≡ named 0 k → IsWorst m (linesIn (s .before) (s .used)) k
-  unfolding worstEffect
   named-worst m k q a =
       let b = s .before in
       let v = s .used in
@@ -111,7 +110,7 @@ module _ {W : Way} (l : Lawful W) (call : W .Call) (u : ℕ) (f : List ℕ) wher
       subst (IsWorst m (linesIn b v)) w (some-worst b v m z)
 
 returned : (call : ArchiveCall) (u : ℕ) (f : List ℕ) → Returned call (archiveSeen call u f .answer .refusal)
-unfolding emptying emptyEffect filing fileEffect showPart showEffect naming worstEffect
+unfolding emptying filing showPart naming
 returned (empties k) u f = rw (way-refusal direct-lawful (empties k) u f) (k .kept .0)
 returned (files k) u f = rw (way-refusal direct-lawful (files k) u f) (k .kept .0)
 returned (shows k t s) u f = rw (way-refusal direct-lawful (shows k t s) u f) (k .kept)

@@ -17,7 +17,7 @@ use Rattle.records.proofs.HeldLine.{not-held}
 use Rattle.records.proofs.Trailer.{sound-facts}
 use Rattle.archive.specs.Conditions.{full}
 use Rattle.archive.specs.Offers.{Offer, offer, Within}
-use Rattle.archive.specs.Archive.{emptyRefusals, emptyEffect, fileRefusal, filing}
+use Rattle.archive.specs.Archive.{emptyRefusals, fileRefusal, filing}
 use Rattle.archive.specs.Answers.{Answer, emptied, filed}
 use Rattle.archive.specs.declared.Filing.the-variants.{Filed, Refused}
 use Rattle.archive.proofs.Refusals.{full-exactly, full-short, full-most, file-refusal-is}
@@ -88,7 +88,7 @@ module _ {W : Way} (l : Lawful W) where
   -- ── an empty, and the first filing behind it
 
   emptied-16 : {b : List ℕ} {u : ℕ} {a : Answer} {b′ : List ℕ} → TurnBy W empty b u a b′ → 16 ≤ length b → a ≡ emptied 0 16
-  unfolding emptyRefusals emptyEffect
+  unfolding emptyRefusals
   emptied-16 {b} t h = turn-does l t .answer-is ∙ rw (le-ltb (length b) 16 h)
 
   pub first-filing : {b : List ℕ} {u : ℕ} {o : Offer} {f : List ℕ} {cs : List Request} {a₀ a₁ : Answer} {rs : List Answer} {b″ : List ℕ} {u″ : ℕ}

@@ -9,7 +9,6 @@ use denote.Ref.{now}
 use lib.ListN.{length}
 use Rattle.emission.specs.Figures.{figuresOf}
 use Rattle.archive.specs.Answers.{Answer, shown}
-use Rattle.archive.specs.Archive.{showEffect, worstEffect}
 use Rattle.archive.proofs.AnswerLaws.{of-showing}
 use Rattle.history.specs.Ledger.{Request}
 use Rattle.history.specs.Calls.{WorkedOut}
@@ -20,7 +19,6 @@ use Rattle.history.proofs.Demand3.{way-demand3}
 use Rattle.history.proofs.Possible.{direct-can}
 
 c-does : (call : CCall) (u : ℕ) (f : List ℕ) → Does (cSeen call u f)
-unfolding showEffect worstEffect
 c-does (empties k) u f = record { answer-is = k .kept .0; after-is = k .kept .1 }
 c-does (files k) u f = record { answer-is = k .kept .0; after-is = k .kept .1 }
 c-does (shows k) u f = reading refl ((λ i. shown (k .kept .0 i) (k .kept .3 i)) ∙ of-showing (now (k .args .0)) (k .args .1 .0) (k .args .1 .1 .0))

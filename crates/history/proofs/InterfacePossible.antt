@@ -11,7 +11,7 @@ use Rattle.records.specs.Lines.{worstOf}
 use Rattle.records.specs.Buffer.{countAt, linesIn}
 use Rattle.archive.specs.Conditions.{accepted}
 use Rattle.archive.specs.Answers.{start, entry, line, answering}
-use Rattle.archive.specs.Archive.{emptyEffect, emptyRefusal, emptyBytes, fileEffect, fileRefusal, fileBytes, showRefusal, showPart, worstEffect, worstRefusal}
+use Rattle.archive.specs.Archive.{emptyRefusal, emptyBytes, fileRefusal, fileBytes, showRefusal, showPart, worstRefusal}
 use Rattle.archive.proofs.AnswerLaws.{accepted-map}
 use Rattle.csorvelin.specs.Place.{startShown, lengthShown}
 use Rattle.csorvelin.proofs.csorvelin_work_out.Met as work-out-met
@@ -39,7 +39,7 @@ module _ (κ : Lft) where
 
   -- each place of an answer is the number that is given without a refusal, or the one beside it
   c-turn-can : (c : Request) → FedBy CWorkedOut c → (b : List ℕ) (u : ℕ) → TurnBy fromC c b u (told c b u) (left c b u)
-  unfolding lent startShown lengthShown showPart emptyEffect fileEffect worstEffect
+  unfolding lent startShown lengthShown showPart
   c-turn-can empty d b u =
       let r = emptyRefusal b in
       let e = ap (answering r) (accepted-map start r trailerSize 0) in

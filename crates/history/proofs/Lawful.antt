@@ -5,7 +5,7 @@ use mathlib.Core.List.{List}
 use Prim.Native.Nat.{ℕ}
 use denote.Ref.{now}
 use Rattle.archive.specs.Answers.{Answer, shown, refusalBy, answerBy, leftBy}
-use Rattle.archive.specs.Archive.{showEffect, showRefusal, worstEffect}
+use Rattle.archive.specs.Archive.{showRefusal}
 use Rattle.archive.proofs.AnswerLaws.{accepted-same, of-showing}
 use Rattle.history.specs.Ledger.{Request, empty, file, show, worst}
 use Rattle.history.specs.Seen.{effect, Seen, seeing, Way}
@@ -43,7 +43,6 @@ pub told-is : (call : ShowCall) (told : ShowRefusalCall) → SameArguments call 
 told-is call told s = told .kept ∙ λ i. showRefusal (s .archive i) (s .used i) (s .number i)
 
 direct-does : (call : ArchiveCall) (u : ℕ) (f : List ℕ) → Does (archiveSeen call u f)
-unfolding showEffect worstEffect
 direct-does (empties k) u f = record { answer-is = k .kept .2; after-is = k .kept .1 }
 direct-does (files k) u f = record { answer-is = k .kept .2; after-is = k .kept .1 }
 direct-does (shows k t s) u f = reading refl ((λ i. shown (told-is k t s i) (k .kept i)) ∙ of-showing (now (k .args .0)) (k .args .1 .0) (k .args .1 .1 .0))

@@ -9,7 +9,7 @@ use lib.ListN.{length}
 use Rattle.records.specs.Layout.{Line}
 use Rattle.archive.specs.Conditions.{accepted}
 use Rattle.archive.specs.Answers.{Answer, usedIn, handed, refusalBy, answerBy}
-use Rattle.archive.specs.Archive.{emptyRefusals, emptyEffect, emptyRefusal, fileEffect, showEffect, worstEffect}
+use Rattle.archive.specs.Archive.{emptyRefusals, emptyRefusal}
 use Rattle.history.specs.Ledger.{Request, empty, file, show, worst, after}
 use Rattle.history.specs.Seen.{effect}
 use Rattle.history.specs.History.{RunBy, done, next, BeginsEmpty, begins, HistoryBy}
@@ -26,7 +26,6 @@ holds-place (shows k) u f = refl
 holds-place (names k) u f = refl
 
 beside-used : (c : Request) (b : List ℕ) (u : ℕ) → (c ≡ empty → ⊥) → u ≡ usedIn (effect c b u .beside) u
-unfolding fileEffect showEffect worstEffect
 beside-used empty b u n = absurd (n refl)
 beside-used (file o f) b u n = refl
 beside-used (show k) b u n = refl
@@ -49,7 +48,7 @@ c-handed {c} {b} {u} {a} t h =
 -- Within a history no empty is refused, since the buffer keeps its size; so whoever hands on what the variable holds makes a history.
 
 none-refused : {c : Request} {b : List ℕ} {u : ℕ} {a : Answer} {b′ : List ℕ} → CTurn c b u a b′ → 16 ≤ length b → c ≡ empty → a .refusal ≡ 0
-unfolding emptyRefusals emptyEffect
+unfolding emptyRefusals
 none-refused {c} {b} {u} t h q =
     let z : emptyRefusal b ≡ 0 = rw (le-ltb (length b) 16 h) in
     (λ i. turn-does c-lawful t .answer-is i .refusal) ∙ ap (λ (x : Request). refusalBy (effect x b u)) q ∙ z

@@ -10,7 +10,7 @@ use lib.ListN.{length}
 use Rattle.scenario.specs.Case.{refusalOf}
 use Rattle.emission.specs.Figures.{figuresOf}
 use Rattle.archive.specs.Answers.{Answer, emptied, handed, answerBy, leftBy}
-use Rattle.archive.specs.Archive.{emptyRefusals, emptyEffect, emptyBytes, emptying, fileBytes, filing, showRefusal, showPart, naming}
+use Rattle.archive.specs.Archive.{emptyRefusals, emptyBytes, emptying, fileBytes, filing, showRefusal, showPart, naming}
 use Rattle.archive.proofs.AnswerLaws.{of-emptying, of-filing, of-naming}
 use Rattle.history.specs.Ledger.{Request, empty, file, show, worst}
 use Rattle.history.specs.Seen.{effect, seeing, Way}
@@ -50,7 +50,7 @@ module _ {W : Way} (can : Can W) where
 
   -- behind an empty that is accepted
   pub history-by : (cs : List Request) → AllFed cs → (b : List ℕ) → 16 ≤ length b → HistoryOf (TurnBy W) b cs
-  unfolding emptyRefusals emptyEffect
+  unfolding emptyRefusals
   history-by cs d b h =
       let r = run-by cs d (left empty b 0) 16 in
       let e : told empty b 0 ≡ emptied 0 16 = rw (le-ltb (length b) 16 h) in

@@ -19,7 +19,7 @@ use Rattle.records.proofs.Holding.{HoldsLines, count-is, sound-is, lines-are, r
 use Rattle.archive.specs.Conditions.{accepted}
 use Rattle.archive.specs.Offers.{Offer, Within, lineWith}
 use Rattle.archive.specs.Answers.{start, entry, part, Answer, emptied, usedIn, handed, Effect, refusalBy, answerBy, leftBy}
-use Rattle.archive.specs.Archive.{emptyRefusals, emptyEffect, emptyRefusal, lineFor, fileEffect, showRefusals, showEffect, worstRefusals, worstEffect}
+use Rattle.archive.specs.Archive.{emptyRefusals, emptyEffect, emptyRefusal, lineFor, showRefusals, worstRefusals}
 use Rattle.archive.proofs.AnswerLaws.{same-answer}
 use Rattle.archive.proofs.Cases.{storable-line}
 use Rattle.archive.proofs.Refusals.{full-exactly, orElse, behind-case, both-zero, file-refusal-is}
@@ -63,7 +63,6 @@ judged-file-is size ls o = behind-case (o .case) (fromLines size ls o)
 -- ── empty, on any buffer
 
 emptied-stands : (b : List ℕ) → refusalBy (ruling (length b) [] empty) ≡ 0 → Stands (length b) (emptyEffect b .leaves) trailerSize []
-unfolding emptyEffect
 emptied-stands b z =
     let h = ltb-false (length b) trailerSize (none-holds ((23 when ltb (length b) trailerSize) ∷ []) refl z 0) in
     record { holds = emptied-holds b h; size-is = length-emptied b h; held = tt }
@@ -105,7 +104,7 @@ module _ {b : List ℕ} {u : ℕ} {ls : List Line} (h : HoldsLines b u ls) (g : 
     pub beside : e .beside ≡ j .beside
 
   alike : (c : Request) → FedBy WorkedOut c → Alike (effect c b u) (ruling (length b) ls c)
-  unfolding emptyRefusals emptyEffect fileEffect showRefusals showEffect worstRefusals worstEffect
+  unfolding emptyRefusals showRefusals worstRefusals
   alike empty d = record { refused = refl; given = λ z. refl; stands = emptied-stands b; beside = refl }
   alike (file o f) d = record {
     refused = file-refusal-is b u o ∙ rw (sound-is h, lines-are h, count-is h, h .length-is) (sym (judged-file-is (length b) ls o));
@@ -144,7 +143,7 @@ kept l c s t =
 
 pub first-stands : {W : Way} (l : Lawful W) {b : List ℕ} {u v : ℕ} {b′ : List ℕ} → TurnBy W empty b u (emptied 0 v) b′
     → (emptied 0 v ≡ answer (length b) [] empty) × (after (length b) [] empty ≡ []) × Stands (length b) b′ v []
-unfolding answer after emptyRefusals emptyEffect
+unfolding answer after emptyRefusals
 first-stands l {b} {u} {v} t =
     let d = turn-does l t in
     let r = emptyRefusal b in
