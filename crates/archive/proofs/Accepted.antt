@@ -1,20 +1,23 @@
 -- What a call may rely on once it is not refused: `Shown` with `shown-facts`, `Free` with `free-facts`.
--- What file answers and leaves: `file-refused`, `file-accepted`; every byte of it in plain numbers is in `Left`.
+-- What worst then tells: `worst-told`. What file answers and leaves: `file-refused`, `file-accepted`; every byte of it in plain numbers is in `Left`.
 use mathlib.Core.Path.{_≡_, refl, sym, ap, _∙_}
 use mathlib.Core.List.{List}
 use Prim.Native.Nat.{ℕ, _+_, _*_, _-_, _≤_, _<_}
 use native.Mathlib.Omega.{arith}
-use borrow.Author.Tests.{leb-false}
+use borrow.Author.Tests.{leb-false, eqb-false}
 use lib.ListN.{length}
 use Rattle.scenario.specs.Refusal.{firstOf}
 use Rattle.scenario.specs.Case.{refusalOf}
 use Rattle.emission.specs.Figures.{figuresOf}
 use Rattle.records.specs.Layout.{usedLength, mostRecords, recordSize}
-use Rattle.records.specs.Buffer.{countAt, written}
+use Rattle.records.specs.Lines.{worstOf, IsWorst}
+use Rattle.records.specs.Buffer.{countAt, linesIn, written}
+use Rattle.records.proofs.RecordLaws.{length-firstLines}
+use Rattle.records.proofs.WorstLine.{worst-is-highest}
 use Rattle.records.proofs.Trailer.{Sound, sound-facts}
 use Rattle.archive.specs.Offers.{Offer, Within, lineWith}
-use Rattle.archive.specs.Answers.{ofFiling}
-use Rattle.archive.specs.Archive.{showRefusals, showRefusal, fromState, fileRefusal, fileAnswer, fileBytes, filing}
+use Rattle.archive.specs.Answers.{line, named, ofFiling}
+use Rattle.archive.specs.Archive.{showRefusals, showRefusal, fromState, fileRefusal, fileAnswer, fileBytes, filing, worstRefusals, worstRefusal, worstAnswer}
 use Rattle.archive.specs.declared.Filing.the-variants.{Filed, Refused}
 use Rattle.scenario.proofs.Refusals.{none-holds}
 use Rattle.archive.proofs.AnswerLaws.{accepted-refused, of-filing}
@@ -67,3 +70,16 @@ file-accepted b u o {n} e m g w =
     let z : u + recordSize ≡ usedLength recordSize (countAt b u + 1) = omega (arith, h .sound .length-is) in
     let a : Filed n (u + recordSize) ≡ filing b u o = rw (e, z, m) in
     (a, w ∙ rw (e, m, g), ap (λ f. ofFiling f u) a ∙ of-filing b u o)
+
+-- ── worst that is not refused
+
+-- it names the worst record: without refusal 24 there is a line, and so a worst one
+pub worst-told : (b : List ℕ) (u m k : ℕ) → named 0 k ≡ worstAnswer b u m → IsWorst m (linesIn b u) k
+unfolding worstRefusals
+worst-told b u m k e =
+    let z : worstRefusal b u m ≡ 0 = λ i. sym e i .refusal in
+    let n = eqb-false (countAt b u) 0 (none-holds (worstRefusals b u m) refl z 2) in
+    let l = length-firstLines recordSize (countAt b u) b in
+    let p : line k ≡ line (worstOf m (linesIn b u)) = (λ i. e i .places) ∙ rw z in
+    let w : k ≡ worstOf m (linesIn b u) = cc p in
+    rw w (worst-is-highest m (linesIn b u) (omega arith))

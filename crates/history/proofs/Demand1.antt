@@ -6,22 +6,18 @@
 use mathlib.Core.Path.{_≡_, refl, sym, _∙_, subst}
 use mathlib.Core.List.{List}
 use Prim.Native.Nat.{ℕ}
-use native.Mathlib.Omega.{arith}
 use contract.Lifetimes.{Lfts}
-use borrow.Author.Tests.{eqb-false}
 use denote.Ref.{now}
 use Rattle.scenario.specs.Refusal.{Condition, firstOf, IsFirst}
-use Rattle.scenario.proofs.Refusals.{first-of-is-first, first-is-first-of, none-holds}
-use Rattle.records.specs.Layout.{recordSize}
-use Rattle.records.specs.Lines.{worstOf, IsWorst}
-use Rattle.records.specs.Buffer.{countAt, linesIn}
-use Rattle.records.proofs.RecordLaws.{length-firstLines}
-use Rattle.records.proofs.WorstLine.{worst-is-highest}
+use Rattle.scenario.proofs.Refusals.{first-of-is-first, first-is-first-of}
+use Rattle.records.specs.Lines.{IsWorst}
+use Rattle.records.specs.Buffer.{linesIn}
 use Rattle.emission.specs.Called.{ends}
 use Rattle.emission.proofs.Demand2.{WorkOutCall}
-use Rattle.archive.specs.Answers.{line, named, Effect, refusalBy, answerBy}
-use Rattle.archive.specs.Archive.{emptying, filing, showPart, worstRefusals, worstEffect, worstRefusal, naming}
+use Rattle.archive.specs.Answers.{named, Effect, refusalBy}
+use Rattle.archive.specs.Archive.{emptying, filing, showPart, naming}
 use Rattle.archive.proofs.AnswerLaws.{accepted-refused}
+use Rattle.archive.proofs.Accepted.{worst-told}
 use borrow.Fn.Kinds as kinds
 use Rattle.scenario.proofs.decode.Kinds as decode-kinds
 use Rattle.scenario.proofs.decode.Reads as decode-reads
@@ -60,14 +56,6 @@ use Rattle.history.specs.Seen.{effect, Seen, Way, InOrder, SeenInOrder, 
 use Rattle.history.specs.Calls.{FileCall, ShowCall, ShowRefusalCall, WorstCall, ArchiveCall, empties, files, shows, names, archiveSeen, Returned}
 use Rattle.history.proofs.Lawful.{Does, Lawful, does-as, direct-lawful}
 
--- without refusal 24 there is a line, and so a worst one
-some-worst : (b : List ℕ) (u m : ℕ) → worstRefusal b u m ≡ 0 → IsWorst m (linesIn b u) (worstOf m (linesIn b u))
-unfolding worstRefusals
-some-worst b u m z =
-    let n = eqb-false (countAt b u) 0 (none-holds (worstRefusals b u m) refl z 2) in
-    let l = length-firstLines recordSize (countAt b u) b in
-    worst-is-highest m (linesIn b u) (omega arith)
-
 -- ── the order of refusals
 
 in-order : (cs : List Condition) (r : ℕ) (Stated : Type 0) → r ≡ firstOf cs → (firstOf cs ≡ 0 → Stated) → InOrder cs r Stated
@@ -100,14 +88,7 @@ module _ {W : Way} (l : Lawful W) (call : W .Call) (u : ℕ) (f : List ℕ) wher
 
   -- what worst names is the worst record
   pub named-worst : (m k : ℕ) → s .request ≡ worst m → s .answer ≡ named 0 k → IsWorst m (linesIn (s .before) (s .used)) k
-  named-worst m k q a =
-      let b = s .before in
-      let v = s .used in
-      let t : named 0 k ≡ answerBy (worstEffect b v m) = sym a ∙ does-as d q .answer-is in
-      let z : worstRefusal b v m ≡ 0 = λ i. sym t i .refusal in
-      let p : line k ≡ line (worstOf m (linesIn b v)) = (λ i. t i .places) ∙ rw z in
-      let w : worstOf m (linesIn b v) ≡ k = cc p in
-      subst (IsWorst m (linesIn b v)) w (some-worst b v m z)
+  named-worst m k q a = worst-told (s .before) (s .used) m k (sym a ∙ does-as d q .answer-is)
 
 returned : (call : ArchiveCall) (u : ℕ) (f : List ℕ) → Returned call (archiveSeen call u f .answer .refusal)
 unfolding emptying filing showPart naming

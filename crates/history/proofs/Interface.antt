@@ -2,9 +2,8 @@
 -- So that it says something: `c-history-can` and `c-met` in InterfacePossible; that the functions ask nothing of their caller is `asks-nothing` of
 -- crate csorvelin. That a caller may hand on what one variable holds is in OneVariable.
 use mathlib.Core.Path.{refl, ap, _∙_}
-use mathlib.Core.List.{List}
+use mathlib.Core.List.{List, []}
 use Prim.Native.Nat.{ℕ}
-use base.Fml.{Lft}
 use denote.Ref.{now}
 use lib.ListN.{length}
 use Rattle.emission.specs.Figures.{figuresOf}
@@ -25,15 +24,15 @@ c-does (shows k) u f = reading refl ((λ i. shown (k .kept .0 i) (k .kept .3 i))
 c-does (names k) u f = reading refl (k .kept)
 
 c-worked : (c f : List ℕ) → CWorkedOut c f → WorkedOut c f
-c-worked c f w = direct-can (w .call .κs .0) .work-out c f (w .gave ∙ w .call .kept .1 ∙ ap figuresOf (w .on))
+c-worked c f w = direct-can [] .work-out c f (w .gave ∙ w .call .kept .1 ∙ ap figuresOf (w .on))
 
 pub c-lawful : Lawful fromC
 c-lawful = record { does = c-does; worked = c-worked }
 
-pub c-turn : Lft → {c : Request} {b : List ℕ} {u : ℕ} {a : Answer} {b′ : List ℕ} → CTurn c b u a b′ → Turn c b u a b′
-c-turn κ {c} {b} {u} t =
+pub c-turn : {c : Request} {b : List ℕ} {u : ℕ} {a : Answer} {b′ : List ℕ} → CTurn c b u a b′ → Turn c b u a b′
+c-turn {c} {b} {u} t =
     let d = turn-does c-lawful t in
-    rw (d .answer-is, d .after-is) (direct-can κ .turn c (fed-map c-worked c (t .fed)) b u)
+    rw (d .answer-is, d .after-is) (direct-can [] .turn c (fed-map c-worked c (t .fed)) b u)
 
 -- ── the theorem
 
