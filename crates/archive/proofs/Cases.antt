@@ -1,4 +1,4 @@
--- What this crate uses of a case within the ranges: `case-size`, `sized-line`, `storable-line` (its line can be a record).
+-- What this crate uses of an offer within the ranges: `case-size`, `sized-line`, `storable-line` (its line can be a record).
 use mathlib.Core.Path.{_≡_, refl, ap, _∙_}
 use mathlib.Core.Bool.{Bool, true, false, cond}
 use mathlib.Core.List.{List, [], _∷_}
@@ -12,6 +12,7 @@ use Rattle.product.specs.Ratio.{Ratio, roundedUp}
 use Rattle.emission.specs.Figures.{exactValues, figuresOf}
 use Rattle.emission.proofs.Accepted.{figures-exact}
 use Rattle.emission.proofs.FigureSize.{figures-fit}
+use Rattle.archive.specs.Offers.{Offer, Within}
 use Rattle.archive.specs.Archive.{lineFor}
 use Rattle.records.proofs.RecordLaws.{Fit, Sized, Storable}
 
@@ -29,14 +30,15 @@ four-values c = four-either (eqb (routeOf c) 1) _ _ refl refl
 four-figures : (c : List ℕ) → refusalOf c ≡ 0 → length (figuresOf c) ≡ 4
 four-figures c e = ap length (figures-exact c e) ∙ length-map (exactValues c) roundedUp ∙ four-values c
 
-pub sized-line : (c : List ℕ) → refusalOf c ≡ 0 → Sized (lineFor c)
-sized-line c e = record { case-size = case-size c e; four = four-figures c e }
+pub sized-line : (o : Offer) → Within o → Sized (lineFor o)
+sized-line o w = record { case-size = case-size (o .case) (w .case-within); four = four-figures (o .case) (w .case-within) }
 
 all-fit : (xs : List ℕ) → ((i : ℕ) → i < length xs → getD xs i 0 < 2 ^ 64) → Fit xs
 all-fit [] h = tt
 all-fit (x ∷ xs) h = (h zero (omega arith), all-fit xs (λ i l. h (suc i) (omega arith)))
 
-pub storable-line : (c : List ℕ) → refusalOf c ≡ 0 → Storable (lineFor c)
-storable-line c e =
-    let n = four-figures c e in
-    record { sized = sized-line c e; fit = all-fit (figuresOf c) (λ i l. figures-fit c e i (omega arith)) }
+pub storable-line : (o : Offer) → Within o → Storable (lineFor o)
+storable-line o w =
+    let e = w .case-within in
+    let n = four-figures (o .case) e in
+    record { sized = sized-line o w; fit = all-fit (figuresOf (o .case)) (λ i l. figures-fit (o .case) e i (omega arith)) }

@@ -12,7 +12,7 @@ use Rattle.binary64.specs.Bytes.{numberOf, numberAt}
 use Rattle.records.specs.Layout.{bytesAt}
 use Rattle.records.proofs.RecordLaws.{line-figures, part-take, part-drop}
 use Rattle.archive.specs.Archive.{showRefusal, showPart, isRecord, recordFigures}
-use Rattle.archive.proofs.Refusals.{accepted-refused}
+use Rattle.archive.proofs.AnswerLaws.{accepted-refused}
 use Rattle.archive.proofs.Accepted.{shown-facts}
 
 -- the four numbers of a record's figures, where it begins at an offset

@@ -1,5 +1,5 @@
 -- Laws of the refusals of this crate's calls. The laws of any list of conditions are scenario's.
--- `compartment-within` (12 does not hold); `accepted-refused` (what stands beside a refusal); `full-exactly`, `full-short`, `full-most` (23 of a filing, in plain numbers).
+-- `compartment-within` (12 does not hold); `full-exactly`, `full-short`, `full-most` (23 of a filing, in plain numbers).
 -- A filing's list begins with the case's own: `behind-case`, `file-refusal-is`; `both-zero`, `case-refused`.
 -- That a refusal is the first that holds is in `history`.
 use mathlib.Core.Path.{_≡_, refl}
@@ -13,16 +13,13 @@ use Rattle.scenario.specs.Refusal.{Condition, firstOf}
 use Rattle.scenario.specs.Case.{refusals, refusalOf}
 use Rattle.binary64.proofs.Bools.{neither}
 use Rattle.scenario.proofs.Refusals.{first-of-append, first-of-some}
-use Rattle.archive.specs.Conditions.{accepted, full, notCompartment}
+use Rattle.archive.specs.Conditions.{full, notCompartment}
 use Rattle.records.specs.Layout.{mostRecords, recordSize}
+use Rattle.archive.specs.Offers.{Offer}
 use Rattle.archive.specs.Archive.{fromState, fileRefusals, fileRefusal}
 
 pub compartment-within : (m : ℕ) → notCompartment m ≡ false → (1 ≤ m) × (m ≤ 4)
 compartment-within m e = let p = neither (ltb m 1) (ltb 4 m) e in (ltb-false m 1 (p .0), ltb-false 4 m (p .1))
-
-pub accepted-refused : {A : Type 0} (r : ℕ) (a b : A) → (r ≡ 0 → ⊥) → accepted r a b ≡ b
-accepted-refused zero a b h = absurd (h refl)
-accepted-refused (suc r) a b h = refl
 
 -- ── free space in plain numbers
 
@@ -67,11 +64,11 @@ pub behind-case : (c : List ℕ) (ds : List Condition) → firstOf (refusals c +
 unfolding refusalOf
 behind-case c ds = first-of-append (refusals c) ds refl
 
-pub file-refusal-is : (b : List ℕ) (u : ℕ) (c : List ℕ) → fileRefusal b u c ≡ orElse (refusalOf c) (firstOf (fromState b u c))
+pub file-refusal-is : (b : List ℕ) (u : ℕ) (o : Offer) → fileRefusal b u o ≡ orElse (refusalOf (o .case)) (firstOf (fromState b u o))
 unfolding fileRefusals
-file-refusal-is b u c = behind-case c (fromState b u c)
+file-refusal-is b u o = behind-case (o .case) (fromState b u o)
 
 -- a case's own refusal is file's
-pub case-refused : (b : List ℕ) (u : ℕ) (c : List ℕ) (r : ℕ) → r ≡ refusalOf c → (r ≡ 0 → ⊥) → r ≡ fileRefusal b u c
+pub case-refused : (b : List ℕ) (u : ℕ) (o : Offer) (r : ℕ) → r ≡ refusalOf (o .case) → (r ≡ 0 → ⊥) → r ≡ fileRefusal b u o
 unfolding fileRefusals refusalOf
-case-refused b u c r e h = first-of-some (refusals c) (fromState b u c) r refl e h
+case-refused b u o r e h = first-of-some (refusals (o .case)) (fromState b u o) r refl e h

@@ -1,4 +1,4 @@
--- What each call answers and leaves, from the bytes b of the lent archive and a used length u: what the contracts cite.
+-- What each call does, from the bytes b of the lent archive and a used length u: its effect, and by that the refusal, the answer and the bytes that the contracts cite; and the answer as an enum.
 -- Paper 01, 'The archive', 'From the state, after those, in this order'. Held and worst are the ledger's own, on the lines that the bytes hold.
 use mathlib.Core.Bool.{Bool, cond}
 use mathlib.Core.List.{List, [], _∷_, _++_}
@@ -11,6 +11,8 @@ use Rattle.scenario.specs.Case.{refusals}
 use Rattle.emission.specs.Figures.{figuresOf}
 use Rattle.records.specs.Layout.{Line, trailer, lineOf, trailerSize, usedLength, recordSize, edition, bytesAt}
 use Rattle.archive.specs.Conditions.{accepted, full, notCompartment}
+use Rattle.archive.specs.Offers.{Offer, lineWith}
+use Rattle.archive.specs.Answers.{start, entry, part, line, Answer, Effect, answerBy, leftBy}
 use Rattle.records.specs.Lines.{held, worstOf}
 use Rattle.records.specs.Buffer.{countAt, broken, linesIn, written}
 use Rattle.archive.specs.declared.Emptied.{Emptied}
@@ -25,44 +27,61 @@ use Rattle.archive.specs.declared.Highest.the-variants.{Number, Refused 
 unfoldable pub emptyRefusals : List ℕ → List Condition
 emptyRefusals b = (23 when ltb (length b) trailerSize) ∷ []
 
+abbrev pub emptyEffect : List ℕ → Effect (List ℕ)
+emptyEffect b = record { refusals = emptyRefusals b; gives = start trailerSize; leaves = splice b 0 (trailer recordSize edition 0); beside = start 0 }
+
 abbrev pub emptyRefusal : List ℕ → ℕ
 emptyRefusal b = firstOf (emptyRefusals b)
+
+abbrev pub emptyAnswer : List ℕ → Answer
+emptyAnswer b = answerBy (emptyEffect b)
+
+abbrev pub emptyBytes : List ℕ → List ℕ
+emptyBytes b = leftBy (emptyEffect b) b
 
 unfoldable pub emptying : List ℕ → Emptied
 emptying b = accepted (emptyRefusal b) (Used trailerSize) (Refused (emptyRefusal b))
 
-unfoldable pub emptyBytes : List ℕ → List ℕ
-emptyBytes b = accepted (emptyRefusal b) (splice b 0 (trailer recordSize edition 0)) b
-
 -- ── file
 
 -- from the state, behind the case's own
-abbrev pub fromState : List ℕ → ℕ → List ℕ → List Condition
-fromState b u c = (21 when broken b u) ∷ (22 when held (linesIn b u) c) ∷ (23 when full (length b) u (countAt b u)) ∷ []
+abbrev pub fromState : List ℕ → ℕ → Offer → List Condition
+fromState b u o = (21 when broken b u) ∷ (22 when held (linesIn b u) (o .case)) ∷ (23 when full (length b) u (countAt b u)) ∷ []
 
-unfoldable pub fileRefusals : List ℕ → ℕ → List ℕ → List Condition
-fileRefusals b u c = refusals c ++ fromState b u c
+unfoldable pub fileRefusals : List ℕ → ℕ → Offer → List Condition
+fileRefusals b u o = refusals (o .case) ++ fromState b u o
 
-abbrev pub fileRefusal : List ℕ → ℕ → List ℕ → ℕ
-fileRefusal b u c = firstOf (fileRefusals b u c)
+-- the line of what is offered: the case with its figures
+abbrev pub lineFor : Offer → Line
+lineFor o = lineWith o (figuresOf (o .case))
 
-unfoldable pub filing : List ℕ → ℕ → List ℕ → Filing
-filing b u c =
-    accepted (fileRefusal b u c)
+abbrev pub fileEffect : List ℕ → ℕ → Offer → Effect (List ℕ)
+fileEffect b u o =
+    let n = countAt b u in
+    record { refusals = fileRefusals b u o; gives = entry n (usedLength recordSize (n + 1)); leaves = written b n (lineFor o); beside = entry 0 u }
+
+abbrev pub fileRefusal : List ℕ → ℕ → Offer → ℕ
+fileRefusal b u o = firstOf (fileRefusals b u o)
+
+abbrev pub fileAnswer : List ℕ → ℕ → Offer → Answer
+fileAnswer b u o = answerBy (fileEffect b u o)
+
+abbrev pub fileBytes : List ℕ → ℕ → Offer → List ℕ
+fileBytes b u o = leftBy (fileEffect b u o) b
+
+unfoldable pub filing : List ℕ → ℕ → Offer → Filing
+filing b u o =
+    accepted (fileRefusal b u o)
     (Filed (countAt b u) (usedLength recordSize (countAt b u + 1)))
-    (NotFiled (fileRefusal b u c))
-
--- the line of a case
-abbrev pub lineFor : List ℕ → Line
-lineFor c = record { case = c; figures = figuresOf c }
-
-unfoldable pub fileBytes : List ℕ → ℕ → List ℕ → List ℕ
-fileBytes b u c = accepted (fileRefusal b u c) (written b (countAt b u) (lineFor c)) b
+    (NotFiled (fileRefusal b u o))
 
 -- ── show
 
 unfoldable pub showRefusals : List ℕ → ℕ → ℕ → List Condition
 showRefusals b u k = (21 when broken b u) ∷ (24 when leb (countAt b u) k) ∷ []
+
+abbrev pub showEffect : List ℕ → ℕ → ℕ → Effect (List ℕ)
+showEffect b u k = record { refusals = showRefusals b u k; gives = part (bytesAt b (recordSize * k) recordSize); leaves = b; beside = part [] }
 
 abbrev pub showRefusal : List ℕ → ℕ → ℕ → ℕ
 showRefusal b u k = firstOf (showRefusals b u k)
@@ -75,8 +94,14 @@ showPart b u k = accepted (showRefusal b u k) (bytesAt b (recordSize * k) record
 unfoldable pub worstRefusals : List ℕ → ℕ → ℕ → List Condition
 worstRefusals b u m = (12 when notCompartment m) ∷ (21 when broken b u) ∷ (24 when eqb (countAt b u) 0) ∷ []
 
+abbrev pub worstEffect : List ℕ → ℕ → ℕ → Effect (List ℕ)
+worstEffect b u m = record { refusals = worstRefusals b u m; gives = line (worstOf m (linesIn b u)); leaves = b; beside = line 0 }
+
 abbrev pub worstRefusal : List ℕ → ℕ → ℕ → ℕ
 worstRefusal b u m = firstOf (worstRefusals b u m)
+
+abbrev pub worstAnswer : List ℕ → ℕ → ℕ → Answer
+worstAnswer b u m = answerBy (worstEffect b u m)
 
 unfoldable pub naming : List ℕ → ℕ → ℕ → Highest
 naming b u m = accepted (worstRefusal b u m) (Number (worstOf m (linesIn b u))) (NotNamed (worstRefusal b u m))

@@ -1,9 +1,12 @@
 // The archive in a lent slice: records of 96 bytes, then a trailer of 16. Each call is total: it answers, or refuses by number.
 // specs/ says when each refusal holds, what each call answers, and which bytes it leaves.
 ghost use mathlib.Core.Path.{_≡_};
+ghost use lib.ListN.{length};
+ghost use Rattle.scenario.specs.Refusal.{firstOf};
 ghost use Rattle.scenario.specs.Case.{refusalOf};
-ghost use Rattle.archive.specs.Archive.{emptying, emptyBytes, filing, fileBytes, fileRefusal, showRefusal, showPart, naming, isRecord, recordFigures};
-ghost use Rattle.archive.specs.Answers.{ofEmptied, ofFiling, ofHighest, emptyAnswer, fileAnswer, worstAnswer};
+ghost use Rattle.archive.specs.Offers.{offer};
+ghost use Rattle.archive.specs.Answers.{ofEmptied, ofFiling, ofHighest};
+ghost use Rattle.archive.specs.Archive.{emptyAnswer, emptyBytes, emptying, fromState, fileRefusal, fileAnswer, fileBytes, filing, showRefusal, showPart, worstAnswer, naming, isRecord, recordFigures};
 use emission::work_out;
 use records::search;
 
@@ -33,14 +36,11 @@ pub fn empty(archive: &mut [u8]) -> Emptied
     Emptied::Used(records::TRAILER_SIZE as u64)
 }
 
-// File's refusal, 0 for none, where the case's own refusal is known.
-fn file_refusal(archive: &[u8], used: u64, case: &[u8], refusal: u32) -> u32
-    requires { ⌜ refusal ≡ refusalOf (now case) ⌝ }
-    ensures { λ r. ⌜ r ≡ fileRefusal (now (archive .entry)) used (now (case .entry)) ⌝ }
+// The refusal of a filing from the state, 0 for none.
+fn state_refusal(archive: &[u8], used: u64, case: &[u8]) -> u32
+    requires { ⌜ length (now case) ≡ 64 ⌝ }
+    ensures { λ r. ⌜ r ≡ firstOf (fromState (now (archive .entry)) used (offer (now (case .entry)))) ⌝ }
 {
-    if refusal != 0 {
-        return refusal;
-    }
     if records::is_broken(archive, used) {
         return 21;
     }
@@ -58,9 +58,20 @@ fn file_refusal(archive: &[u8], used: u64, case: &[u8], refusal: u32) -> u32
     0
 }
 
+// File's refusal, 0 for none, where the case's own refusal is known.
+fn file_refusal(archive: &[u8], used: u64, case: &[u8], refusal: u32) -> u32
+    requires { ⌜ refusal ≡ refusalOf (now case) ⌝ }
+    ensures { λ r. ⌜ r ≡ fileRefusal (now (archive .entry)) used (offer (now (case .entry))) ⌝ }
+{
+    if refusal != 0 {
+        return refusal;
+    }
+    state_refusal(archive, used, case)
+}
+
 // Works the case out and files it with its figures.
 pub fn file(archive: &mut [u8], used: u64, case: &[u8]) -> Filing
-    ensures { λ r. ⌜ (r ≡ filing (now (archive .entry)) used (now (case .entry))) × (now (archive .exit) ≡ fileBytes (now (archive .entry)) used (now (case .entry))) × (ofFiling r used ≡ fileAnswer (now (archive .entry)) used (now (case .entry))) ⌝ }
+    ensures { λ r. ⌜ (r ≡ filing (now (archive .entry)) used (offer (now (case .entry)))) × (now (archive .exit) ≡ fileBytes (now (archive .entry)) used (offer (now (case .entry)))) × (ofFiling r used ≡ fileAnswer (now (archive .entry)) used (offer (now (case .entry)))) ⌝ }
 {
     let worked = work_out(case);
     let refusal = file_refusal(archive, used, case, worked.refusal);

@@ -13,10 +13,11 @@ use Rattle.binary64.specs.Bytes.{bytesOf, numberAt, splice}
 use Rattle.scenario.specs.Builder.{caseBytes}
 use Rattle.records.specs.Layout.{Line, lineOf}
 use Rattle.records.specs.Buffer.{written}
-use Rattle.archive.specs.Answers.{ofEmptied, ofFiling}
+use Rattle.archive.specs.Offers.{offer}
+use Rattle.archive.specs.Answers.{ofEmptied, ofFiling, usedIn}
 use Rattle.archive.specs.Archive.{emptying, emptyBytes, filing, fileBytes}
 use Rattle.cases.specs.Fields.{plainNumber, recordIn}
-use Rattle.cases.specs.Calls.{usedIn, recordedLength, recordedBytes, grown, filled, filledLength, filledBytes, torn, usedAfter, bytesAfter}
+use Rattle.cases.specs.Calls.{recordedLength, recordedBytes, grown, filled, filledLength, filledBytes, torn, usedAfter, bytesAfter}
 
 -- ── a record
 
@@ -84,7 +85,7 @@ module _ (b : List ℕ) (at : ℕ) where
 -- ── by the call's place among the names
 
 module _ (k : ℕ) (f b : List ℕ) (u : ℕ) where
-  pub after-empty : {r : ℕ} {g : List ℕ} → k ≡ 0 → r ≡ usedIn (ofEmptied (emptying b)) 0 → g ≡ emptyBytes b → (r ≡ usedAfter k f b u) × (g ≡ bytesAfter k f b u)
+  pub after-empty : {r : ℕ} {g : List ℕ} → k ≡ 0 → r ≡ usedIn (ofEmptied (emptying b) .places) 0 → g ≡ emptyBytes b → (r ≡ usedAfter k f b u) × (g ≡ bytesAfter k f b u)
   unfolding usedAfter bytesAfter
   after-empty h e w = rw h (e, w)
 
@@ -96,7 +97,7 @@ module _ (k : ℕ) (f b : List ℕ) (u : ℕ) where
   unfolding usedAfter bytesAfter
   after-fill h q e w = rw (h, ← q) (e, w)
 
-  pub after-file : {n m r : ℕ} {g : List ℕ} → k ≡ 3 → n ≡ numberAt f 104 1 → m ≡ min n 96 → r ≡ usedIn (ofFiling (filing b u (take m (recordIn f))) u) u → g ≡ fileBytes b u (take m (recordIn f))
+  pub after-file : {n m r : ℕ} {g : List ℕ} → k ≡ 3 → n ≡ numberAt f 104 1 → m ≡ min n 96 → r ≡ usedIn (ofFiling (filing b u (offer (take m (recordIn f)))) u .places) u → g ≡ fileBytes b u (offer (take m (recordIn f)))
       → (r ≡ usedAfter k f b u) × (g ≡ bytesAfter k f b u)
   unfolding usedAfter bytesAfter
   after-file h p q e w = rw (h, ← p, ← q) (e, w)

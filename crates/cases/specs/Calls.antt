@@ -9,20 +9,14 @@ use Rattle.listing.specs.Listing.{codes}
 use Rattle.scenario.specs.Builder.{caseBytes}
 use Rattle.records.specs.Layout.{Line, lineOf}
 use Rattle.records.specs.Buffer.{written}
-use Rattle.archive.specs.Answers.{Answer, emptied, filed, shown, named, ofEmptied, ofFiling}
+use Rattle.archive.specs.Offers.{offer}
+use Rattle.archive.specs.Answers.{ofEmptied, ofFiling, usedIn}
 use Rattle.archive.specs.Archive.{emptying, emptyBytes, filing, fileBytes}
 use Rattle.cases.specs.Words.{wordsOf, placeIn}
 use Rattle.cases.specs.Fields.{areFields, withFields, plainNumber, recordIn, caseIn}
 
 unfoldable pub callNames : List (List ℕ)
 callNames = wordsOf (codes "empty used fill file record tear show worst list work-out")
-
--- the used length that an answer has, or the one given, u
-abbrev pub usedIn : Answer → ℕ → ℕ
-usedIn (emptied r v) u = v
-usedIn (filed r k v) u = v
-usedIn (shown r p) u = u
-usedIn (named r k) u = u
 
 -- ── records put behind those that there are, whatever they hold
 
@@ -62,10 +56,10 @@ filledBytes n b = cond (holds (length b) n) (filled n b) b
 -- others leave it.
 unfoldable pub usedAfter : ℕ → List ℕ → List ℕ → ℕ → ℕ
 usedAfter k fields b u =
-    cond (eqb k 0) (usedIn (ofEmptied (emptying b)) 0)
+    cond (eqb k 0) (usedIn (ofEmptied (emptying b) .places) 0)
     (cond (eqb k 1) (plainNumber fields)
     (cond (eqb k 2) (filledLength (length b) (plainNumber fields))
-    (cond (eqb k 3) (usedIn (ofFiling (filing b u (caseIn fields)) u) u)
+    (cond (eqb k 3) (usedIn (ofFiling (filing b u (offer (caseIn fields))) u .places) u)
     (cond (eqb k 4) (recordedLength (length b) u) u))))
 
 -- another byte at a place
@@ -77,7 +71,7 @@ unfoldable pub bytesAfter : ℕ → List ℕ → List ℕ → ℕ → List ℕ
 bytesAfter k fields b u =
     cond (eqb k 0) (emptyBytes b)
     (cond (eqb k 2) (filledBytes (plainNumber fields) b)
-    (cond (eqb k 3) (fileBytes b u (caseIn fields))
+    (cond (eqb k 3) (fileBytes b u (offer (caseIn fields)))
     (cond (eqb k 4) (recordedBytes b u (recordIn fields))
     (cond (eqb k 5) (torn (plainNumber fields) b) b))))
 

@@ -1,8 +1,9 @@
 // The calls, a line printed for each.
 ghost use mathlib.Core.Path.{_≡_};
-ghost use Rattle.archive.specs.Answers.{ofEmptied, ofFiling};
+ghost use Rattle.archive.specs.Offers.{offer};
+ghost use Rattle.archive.specs.Answers.{ofEmptied, ofFiling, usedIn};
 ghost use Rattle.archive.specs.Archive.{emptying, emptyBytes, filing, fileBytes};
-ghost use Rattle.cases.specs.Calls.{usedIn, torn};
+ghost use Rattle.cases.specs.Calls.{torn};
 use archive::Emptied;
 use archive::Filing;
 use archive::Highest;
@@ -40,7 +41,7 @@ pub fn work_out(case: &[u8]) {
 
 // The used length afterwards.
 pub fn empty(archive: &mut [u8]) -> u64
-    ensures { λ r. ⌜ (r ≡ usedIn (ofEmptied (emptying (now (archive .entry)))) 0) × (now (archive .exit) ≡ emptyBytes (now (archive .entry))) ⌝ }
+    ensures { λ r. ⌜ (r ≡ usedIn (ofEmptied (emptying (now (archive .entry))) .places) 0) × (now (archive .exit) ≡ emptyBytes (now (archive .entry))) ⌝ }
 {
     match archive::empty(archive) {
         Emptied::Used(length) => {
@@ -56,7 +57,7 @@ pub fn empty(archive: &mut [u8]) -> u64
 
 // The used length afterwards.
 pub fn file(archive: &mut [u8], used: u64, case: &[u8]) -> u64
-    ensures { λ r. ⌜ (r ≡ usedIn (ofFiling (filing (now (archive .entry)) used (now (case .entry))) used) used) × (now (archive .exit) ≡ fileBytes (now (archive .entry)) used (now (case .entry))) ⌝ }
+    ensures { λ r. ⌜ (r ≡ usedIn (ofFiling (filing (now (archive .entry)) used (offer (now (case .entry)))) used .places) used) × (now (archive .exit) ≡ fileBytes (now (archive .entry)) used (offer (now (case .entry)))) ⌝ }
 {
     match archive::file(archive, used, case) {
         Filing::Filed {

@@ -4,8 +4,9 @@ ghost use mathlib.Core.Path.{_≡_};
 ghost use Rattle.scenario.specs.Case.{refusalOf};
 ghost use Rattle.emission.specs.Figures.{figuresOf};
 ghost use Rattle.records.specs.Layout.{bytesAt};
-ghost use Rattle.archive.specs.Archive.{emptyBytes, fileBytes, showRefusal, showPart};
-ghost use Rattle.archive.specs.Answers.{emptied, filed, named, emptyAnswer, fileAnswer, worstAnswer};
+ghost use Rattle.archive.specs.Offers.{offer};
+ghost use Rattle.archive.specs.Answers.{emptied, filed, named};
+ghost use Rattle.archive.specs.Archive.{emptyAnswer, emptyBytes, fileAnswer, fileBytes, showRefusal, showPart, worstAnswer};
 ghost use Rattle.csorvelin.specs.Place.{startShown, lengthShown};
 use archive::Emptied;
 use archive::Filing;
@@ -43,7 +44,7 @@ pub extern "C" fn csorvelin_file(
     case: &[u8],
     number: &mut u64,
 ) -> u32
-    ensures { λ r. ⌜ (filed r (now (number .exit)) (now (used .exit)) ≡ fileAnswer (now (archive .entry)) (now (used .entry)) (now (case .entry))) × (now (archive .exit) ≡ fileBytes (now (archive .entry)) (now (used .entry)) (now (case .entry))) ⌝ }
+    ensures { λ r. ⌜ (filed r (now (number .exit)) (now (used .exit)) ≡ fileAnswer (now (archive .entry)) (now (used .entry)) (offer (now (case .entry)))) × (now (archive .exit) ≡ fileBytes (now (archive .entry)) (now (used .entry)) (offer (now (case .entry)))) ⌝ }
 {
     let given = *used;
     match archive::file(archive, given, case) {

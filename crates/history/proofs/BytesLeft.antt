@@ -1,97 +1,28 @@
--- Every byte that a call of empty or file leaves, in plain numbers, as its own contract says: `bytes-left`, by its answer; of calls from C `c-bytes-left`, by its result.
--- What the other calls leave, and a refused one, is also in Demand1 `unchanged` and SingleCalls `c-beside-a-refusal`.
-use mathlib.Core.Path.{_≡_, sym, ap, _∙_}
+-- Every byte that a call of empty or file leaves, in plain numbers, by its answer, and of a refused call that it leaves all: `bytes-left`; of calls from C `c-bytes-left`.
+-- By any lawful way of calling: `way-left`. What the other calls leave is in Demand1 `unchanged`.
+use mathlib.Core.Path.{sym, _∙_}
 use mathlib.Core.List.{List}
-use Prim.Native.Nat.{ℕ, _+_, _*_}
-use native.Mathlib.Omega.{arith}
-use denote.Ref.{now}
-use Rattle.emission.specs.Called.{ends}
-use Rattle.records.specs.Layout.{usedLength, recordSize}
-use Rattle.records.specs.Buffer.{countAt}
-use Rattle.archive.specs.Conditions.{accepted}
-use Rattle.archive.specs.Archive.{emptyRefusal, emptying, emptyBytes, fileRefusal, filing, fileBytes}
-use Rattle.archive.specs.Answers.{emptied, filed, ofEmptied, ofFiling, emptyAnswer, fileAnswer}
-use Rattle.archive.specs.Left.{LeftByEmpty, LeftByFile}
-use Rattle.archive.specs.declared.Emptied.the-variants.{Used, Refused}
-use Rattle.archive.specs.declared.Filing.the-variants.{Filed, Refused as NotFiled}
-use Rattle.archive.proofs.Refusals.{accepted-refused}
+use Prim.Native.Nat.{ℕ}
 use Rattle.archive.proofs.Left.{empty-left, file-left}
-use Rattle.history.specs.Calls.{EmptyCall, FileCall}
-use Rattle.history.specs.Interface.{CEmptyCall, CFileCall}
-use Rattle.history.proofs.SingleCalls.{c-beside-a-refusal}
+use Rattle.history.specs.Seen.{Way, SeenLeft}
+use Rattle.history.specs.Calls.{ArchiveCall, archiveSeen}
+use Rattle.history.specs.Interface.{CCall, cSeen}
+use Rattle.history.proofs.Lawful.{Lawful, does-as, direct-lawful}
+use Rattle.history.proofs.Demand1.{way-unchanged}
+use Rattle.history.proofs.Interface.{c-lawful}
 
--- ── from the numbers that a call gives
+pub way-left : {W : Way} (l : Lawful W) (call : W .Call) (u : ℕ) (f : List ℕ) → SeenLeft (W .seen call u f)
+way-left {W} l call u f =
+    let s = W .seen call u f in
+    let d = l .does call u f in
+    record {
+      by-empty = λ q v e. let k = does-as d q in rw (k .after-is) (empty-left (s .before) v (sym e ∙ k .answer-is));
+      by-file = λ o g q n v e. let k = does-as d q in rw (k .after-is) (file-left (s .before) (s .used) o n v (sym e ∙ k .answer-is));
+      refused = λ h. way-unchanged l call u f h .1;
+    }
 
-accepted-empty : (b : List ℕ) (v : ℕ) {b′ : List ℕ} → emptied 0 v ≡ emptyAnswer b → b′ ≡ emptyBytes b → (v ≡ 16) × LeftByEmpty b b′
-unfolding emptyAnswer
-accepted-empty b v e w =
-    let z : emptyRefusal b ≡ 0 = cc e in
-    let k : v ≡ accepted (emptyRefusal b) 16 0 = cc e in
-    (k ∙ rw z, rw w (empty-left b z))
+pub bytes-left : (call : ArchiveCall) (u : ℕ) (f : List ℕ) → SeenLeft (archiveSeen call u f)
+bytes-left = way-left direct-lawful
 
-accepted-file : (b : List ℕ) (u : ℕ) (c : List ℕ) (n v : ℕ) {b′ : List ℕ} → filed 0 n v ≡ fileAnswer b u c → b′ ≡ fileBytes b u c → (v ≡ 96 * n + 112) × LeftByFile n c b b′
-unfolding fileAnswer
-accepted-file b u c n v e w =
-    let r = fileRefusal b u c in
-    let z : r ≡ 0 = cc e in
-    let k : n ≡ accepted r (countAt b u) 0 = cc e in
-    let l : v ≡ accepted r (usedLength recordSize (countAt b u + 1)) u = cc e in
-    let m : n ≡ countAt b u = k ∙ rw z in
-    let q : v ≡ usedLength recordSize (countAt b u + 1) = l ∙ rw z in
-    (omega (arith, m, q), rw (m, w) (file-left b u c z))
-
--- ── a refusal is no other answer
-
-refused-empty : (b : List ℕ) (r : ℕ) → Refused r ≡ emptying b → emptyBytes b ≡ b
-unfolding emptying emptyBytes
-refused-empty b r e =
-    accepted-refused (emptyRefusal b) _ b
-    (λ (z : emptyRefusal b ≡ 0). let k : Refused r ≡ Used 16 = e ∙ rw z in let o : _≡_ {A = ℕ} 0 1 = cc k in omega arith)
-
-refused-file : (b : List ℕ) (u : ℕ) (c : List ℕ) (r : ℕ) → NotFiled r ≡ filing b u c → fileBytes b u c ≡ b
-unfolding filing fileBytes
-refused-file b u c r e =
-    accepted-refused (fileRefusal b u c) _ b
-    (λ (z : fileRefusal b u c ≡ 0). let k : NotFiled r ≡ Filed (countAt b u) (usedLength recordSize (countAt b u + 1)) = e ∙ rw z in let o : _≡_ {A = ℕ} 0 1 = cc k in omega arith)
-
--- ── of calls
-
-pub bytes-left :
-    ((call : EmptyCall)
-    → ((v : ℕ) → call .result ≡ Used v → (v ≡ 16) × LeftByEmpty (now (call .args .0)) (now (ends call .0)))
-    × ((r : ℕ) → call .result ≡ Refused r → now (ends call .0) ≡ now (call .args .0)))
-    × ((call : FileCall)
-    → ((n v : ℕ) → call .result ≡ Filed n v → (v ≡ 96 * n + 112) × LeftByFile n (now (call .args .1 .1 .0)) (now (call .args .0)) (now (ends call .0)))
-    × ((r : ℕ) → call .result ≡ NotFiled r → now (ends call .0) ≡ now (call .args .0)))
-bytes-left = (
-  λ call. let b = now (call .args .0) in (
-    λ v e. accepted-empty b v (ap ofEmptied (sym e) ∙ call .kept .2) (call .kept .1),
-    λ r e. call .kept .1 ∙ refused-empty b r (sym e ∙ call .kept .0),
-  ),
-  λ call. let b = now (call .args .0) in let u = call .args .1 .0 in let c = now (call .args .1 .1 .0) in (
-    λ n v e. accepted-file b u c n v (ap (λ f. ofFiling f u) (sym e) ∙ call .kept .2) (call .kept .1),
-    λ r e. call .kept .1 ∙ refused-file b u c r (sym e ∙ call .kept .0),
-  ),
-)
-
--- ── from C: the number and the used length are those that stand in the caller's places
-
-pub c-bytes-left :
-    ((call : CEmptyCall)
-    → (call .result ≡ 0 → (now (ends call .1 .0) ≡ 16) × LeftByEmpty (now (call .args .0)) (now (ends call .0)))
-    × ((call .result ≡ 0 → ⊥) → now (ends call .0) ≡ now (call .args .0)))
-    × ((call : CFileCall)
-    → (call .result ≡ 0 → (now (ends call .1 .0) ≡ 96 * now (ends call .1 .1 .1 .0) + 112)
-    × LeftByFile (now (ends call .1 .1 .1 .0)) (now (call .args .1 .1 .0)) (now (call .args .0)) (now (ends call .0)))
-    × ((call .result ≡ 0 → ⊥) → now (ends call .0) ≡ now (call .args .0)))
-c-bytes-left = (
-  λ call. (
-    λ (z : call .result ≡ 0). accepted-empty (now (call .args .0)) (now (ends call .1 .0)) (ap (λ r. emptied r (now (ends call .1 .0))) (sym z) ∙ call .kept .0) (call .kept .1),
-    λ h. c-beside-a-refusal .1 call h .0,
-  ),
-  λ call. (
-    λ (z : call .result ≡ 0). accepted-file (now (call .args .0)) (now (call .args .1 .0)) (now (call .args .1 .1 .0)) (now (ends call .1 .1 .1 .0)) (now (ends call .1 .0))
-        (ap (λ r. filed r (now (ends call .1 .1 .1 .0)) (now (ends call .1 .0))) (sym z) ∙ call .kept .0) (call .kept .1),
-    λ h. c-beside-a-refusal .2 call h .0,
-  ),
-)
+pub c-bytes-left : (call : CCall) (u : ℕ) (f : List ℕ) → SeenLeft (cSeen call u f)
+c-bytes-left = way-left c-lawful

@@ -1,26 +1,23 @@
 -- Demand 1, of calls of the very functions.
--- `refusals-in-order`: of each call, the refusal is the first of its list that holds, otherwise the result is the stated one.
--- `unchanged`: a refusal leaves every byte as it was, and shows none; what is lent to be read is left as it was in any case.
+-- `refusals-in-order`: of each call, the refusal is the first of its list that holds, otherwise places, bytes and result are the stated ones.
+-- `unchanged`: beside a refusal each place holds what it should and every byte is as it was; what is lent to be read is left as it was in any case.
+-- Of every lawful way of calling: `way-in-order`, `way-unchanged`, and `named-worst`, what worst names is the worst record.
 -- So that they say something: `met` (the functions meet the contracts that a call goes by) and `asks-nothing` (no call asks anything of its caller).
-use mathlib.Core.Path.{_≡_, refl, sym, ap, _∙_, subst}
-use mathlib.Core.List.{List, []}
+use mathlib.Core.Path.{_≡_, refl, sym, _∙_, subst}
+use mathlib.Core.List.{List}
 use Prim.Native.Nat.{ℕ}
-use native.Mathlib.Omega.{arith}
 use contract.Lifetimes.{Lfts}
-use borrow.Author.Tests.{eqb-false}
 use denote.Ref.{now}
 use Rattle.scenario.specs.Refusal.{Condition, firstOf, IsFirst}
-use Rattle.scenario.proofs.Refusals.{first-of-is-first, first-is-first-of, none-holds}
-use Rattle.records.specs.Layout.{recordSize}
-use Rattle.records.specs.Lines.{worstOf, IsWorst}
-use Rattle.records.specs.Buffer.{countAt, linesIn}
-use Rattle.records.proofs.RecordLaws.{length-firstLines}
-use Rattle.records.proofs.WorstLine.{worst-is-highest}
+use Rattle.scenario.proofs.Refusals.{first-of-is-first, first-is-first-of}
+use Rattle.records.specs.Lines.{IsWorst}
+use Rattle.records.specs.Buffer.{linesIn}
 use Rattle.emission.specs.Called.{ends}
 use Rattle.emission.proofs.Demand2.{WorkOutCall}
-use Rattle.archive.specs.Archive.{emptyRefusals, emptyRefusal, emptying, emptyBytes, fileRefusals, fileRefusal, filing, fileBytes, showRefusals, showRefusal, showPart, worstRefusals, worstRefusal, naming}
-use Rattle.archive.specs.Answers.{ofEmptied, ofFiling, ofHighest, emptyAnswer, fileAnswer, worstAnswer, refusalIn}
-use Rattle.archive.proofs.Refusals.{accepted-refused}
+use Rattle.archive.specs.Answers.{named, Effect, refusalBy}
+use Rattle.archive.specs.Archive.{emptying, filing, showPart, naming}
+use Rattle.archive.proofs.AnswerLaws.{accepted-refused}
+use Rattle.archive.proofs.Accepted.{worst-told}
 use borrow.Fn.Kinds as kinds
 use Rattle.scenario.proofs.decode.Kinds as decode-kinds
 use Rattle.scenario.proofs.decode.Reads as decode-reads
@@ -54,7 +51,10 @@ use Rattle.archive.proofs.worst.Kinds as worst-kinds
 use Rattle.archive.proofs.worst.Reads as worst-reads
 use Rattle.archive.proofs.worst.Met as worst-met
 use Rattle.archive.proofs.worst.Statement as worst-statement
-use Rattle.history.specs.Calls.{EmptyCall, FileCall, ShowCall, ShowRefusalCall, WorstCall, SameArguments, InOrder, EmptyInOrder, FileInOrder, ShowInOrder, WorstInOrder}
+use Rattle.history.specs.Ledger.{worst}
+use Rattle.history.specs.Seen.{effect, Seen, Way, InOrder, SeenInOrder, SeenUnchanged}
+use Rattle.history.specs.Calls.{FileCall, ShowCall, ShowRefusalCall, WorstCall, ArchiveCall, empties, files, shows, names, archiveSeen, Returned}
+use Rattle.history.proofs.Lawful.{Does, Lawful, does-as, direct-lawful}
 
 -- ── the order of refusals
 
@@ -64,89 +64,53 @@ in-order cs r Stated e s = record {
   otherwise = λ q. s (sym e ∙ q);
 }
 
-empty-in-order : (call : EmptyCall) → EmptyInOrder call
-unfolding emptying emptyBytes emptyAnswer
-empty-in-order call =
-    let b = now (call .args .0) in
-    in-order (emptyRefusals b) (refusalIn (ofEmptied (call .result))) _
-    (ap refusalIn (call .kept .2))
-    (λ z. (call .kept .0 ∙ rw z, call .kept .1 ∙ rw z))
+-- of every lawful way of calling
+module _ {W : Way} (l : Lawful W) (call : W .Call) (u : ℕ) (f : List ℕ) where
+  abbrev s : Seen
+  s = W .seen call u f
 
-file-in-order : (call : FileCall) → FileInOrder call
-unfolding filing fileBytes fileAnswer
-file-in-order call =
-    let b = now (call .args .0) in
-    let u = call .args .1 .0 in
-    let c = now (call .args .1 .1 .0) in
-    in-order (fileRefusals b u c) (refusalIn (ofFiling (call .result) u)) _
-    (ap refusalIn (call .kept .2))
-    (λ z. (call .kept .0 ∙ rw z, call .kept .1 ∙ rw z))
+  abbrev e : Effect (List ℕ)
+  e = effect (s .request) (s .before) (s .used)
 
-pub told-is : (call : ShowCall) (told : ShowRefusalCall) → SameArguments call told → told .result ≡ showRefusal (now (call .args .0)) (call .args .1 .0) (call .args .1 .1 .0)
-told-is call told s = told .kept ∙ λ i. showRefusal (s .archive i) (s .used i) (s .number i)
+  d : Does s
+  d = l .does call u f
 
-show-in-order : (call : ShowCall) (told : ShowRefusalCall) → SameArguments call told → ShowInOrder call told
-unfolding showPart
-show-in-order call told s =
-    in-order (showRefusals (now (call .args .0)) (call .args .1 .0) (call .args .1 .1 .0)) (told .result) _ (told-is call told s) (λ z. call .kept ∙ rw z)
+  pub way-refusal : s .answer .refusal ≡ refusalBy e
+  way-refusal = λ i. d .answer-is i .refusal
 
--- without refusal 24 there is a line, and so a worst one
-some-worst : (b : List ℕ) (u m : ℕ) → worstRefusal b u m ≡ 0 → IsWorst m (linesIn b u) (worstOf m (linesIn b u))
-unfolding worstRefusals
-some-worst b u m z =
-    let n = eqb-false (countAt b u) 0 (none-holds (worstRefusals b u m) refl z 2) in
-    let l = length-firstLines recordSize (countAt b u) b in
-    worst-is-highest m (linesIn b u) (omega arith)
+  pub way-in-order : SeenInOrder s
+  way-in-order = in-order (e .refusals) (s .answer .refusal) _ way-refusal (λ z. ((λ i. d .answer-is i .places) ∙ rw z, d .after-is ∙ rw z))
 
-worst-in-order : (call : WorstCall) → WorstInOrder call
-unfolding naming worstAnswer
-worst-in-order call =
-    let b = now (call .args .0) in
-    let u = call .args .1 .0 in
-    let m = call .args .1 .1 .0 in
-    in-order (worstRefusals b u m) (refusalIn (ofHighest (call .result))) _
-    (ap refusalIn (call .kept .1))
-    (λ z. (call .kept .0 ∙ rw z, some-worst b u m z))
+  pub way-unchanged : SeenUnchanged s
+  way-unchanged h =
+      let n : refusalBy e ≡ 0 → ⊥ = λ z. h (way-refusal ∙ z) in
+      ((λ i. d .answer-is i .places) ∙ accepted-refused (refusalBy e) (e .gives) (e .beside) n, d .after-is ∙ accepted-refused (refusalBy e) (e .leaves) (s .before) n)
 
-pub refusals-in-order :
-    ((call : EmptyCall) → EmptyInOrder call)
-    × ((call : FileCall) → FileInOrder call)
-    × ((call : ShowCall) (told : ShowRefusalCall) → SameArguments call told → ShowInOrder call told)
-    × ((call : WorstCall) → WorstInOrder call)
-refusals-in-order = (empty-in-order, file-in-order, show-in-order, worst-in-order)
+  -- what worst names is the worst record
+  pub named-worst : (m k : ℕ) → s .request ≡ worst m → s .answer ≡ named 0 k → IsWorst m (linesIn (s .before) (s .used)) k
+  named-worst m k q a = worst-told (s .before) (s .used) m k (sym a ∙ does-as d q .answer-is)
+
+returned : (call : ArchiveCall) (u : ℕ) (f : List ℕ) → Returned call (archiveSeen call u f .answer .refusal)
+unfolding emptying filing showPart naming
+returned (empties k) u f = rw (way-refusal direct-lawful (empties k) u f) (k .kept .0)
+returned (files k) u f = rw (way-refusal direct-lawful (files k) u f) (k .kept .0)
+returned (shows k t s) u f = rw (way-refusal direct-lawful (shows k t s) u f) (k .kept)
+returned (names k) u f = rw (way-refusal direct-lawful (names k) u f) (k .kept .0)
+
+pub refusals-in-order : (call : ArchiveCall) (u : ℕ) (f : List ℕ) → SeenInOrder (archiveSeen call u f) × Returned call (archiveSeen call u f .answer .refusal)
+refusals-in-order call u f = (way-in-order direct-lawful call u f, returned call u f)
 
 -- ── a refusal changes nothing
 
-empty-unchanged : (call : EmptyCall) → (refusalIn (ofEmptied (call .result)) ≡ 0 → ⊥) → now (ends call .0) ≡ now (call .args .0)
-unfolding emptyBytes emptyAnswer
-empty-unchanged call h =
-    let b = now (call .args .0) in
-    call .kept .1 ∙ accepted-refused (emptyRefusal b) _ b (λ z. h (ap refusalIn (call .kept .2) ∙ z))
-
-file-unchanged : (call : FileCall) → (refusalIn (ofFiling (call .result) (call .args .1 .0)) ≡ 0 → ⊥) → now (ends call .0) ≡ now (call .args .0)
-unfolding fileBytes fileAnswer
-file-unchanged call h =
-    let b = now (call .args .0) in
-    let u = call .args .1 .0 in
-    let c = now (call .args .1 .1 .0) in
-    call .kept .1 ∙ accepted-refused (fileRefusal b u c) _ b (λ z. h (ap refusalIn (call .kept .2) ∙ z))
-
-show-none : (call : ShowCall) (told : ShowRefusalCall) → SameArguments call told → (told .result ≡ 0 → ⊥) → now (call .result) ≡ []
-unfolding showPart
-show-none call told s h =
-    call .kept ∙ accepted-refused (showRefusal (now (call .args .0)) (call .args .1 .0) (call .args .1 .1 .0)) _ [] (λ z. h (told-is call told s ∙ z))
-
 -- Show, its companion and worst leave every byte, refused or not, and so do file and work out of their case: what is lent to be read is not written.
 pub unchanged :
-    ((call : EmptyCall) → (refusalIn (ofEmptied (call .result)) ≡ 0 → ⊥) → now (ends call .0) ≡ now (call .args .0))
-    × ((call : FileCall) → (refusalIn (ofFiling (call .result) (call .args .1 .0)) ≡ 0 → ⊥) → now (ends call .0) ≡ now (call .args .0))
-    × ((call : ShowCall) (told : ShowRefusalCall) → SameArguments call told → (told .result ≡ 0 → ⊥) → now (call .result) ≡ [])
+    ((call : ArchiveCall) (u : ℕ) (f : List ℕ) → SeenUnchanged (archiveSeen call u f))
     × ((call : FileCall) → now (ends call .1 .1 .0) ≡ now (call .args .1 .1 .0))
     × ((call : ShowCall) → now (ends call .0) ≡ now (call .args .0))
     × ((call : ShowRefusalCall) → now (ends call .0) ≡ now (call .args .0))
     × ((call : WorstCall) → now (ends call .0) ≡ now (call .args .0))
     × ((call : WorkOutCall) → now (ends call .0) ≡ now (call .args .0))
-unchanged = (empty-unchanged, file-unchanged, show-none, λ call. refl, λ call. refl, λ call. refl, λ call. refl, λ call. refl)
+unchanged = (way-unchanged direct-lawful, λ call. refl, λ call. refl, λ call. refl, λ call. refl, λ call. refl)
 
 -- ── the functions meet the contracts that a call goes by
 

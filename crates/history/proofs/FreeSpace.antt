@@ -1,5 +1,5 @@
 -- Free space in plain numbers: when a case within the ranges that is not held is filed, and when it meets 23.
--- `file-exactly`, of one call on any archive; `filed-exactly`, of a filing after any history; `first-filing`, of the first one behind an empty.
+-- `file-exactly`, of one call of `file` on any archive. By any lawful way of calling: `filed-exactly`, of a filing after any history; `first-filing`, of the first one behind an empty.
 use mathlib.Core.Path.{_≡_, _∙_}
 use mathlib.Core.Bool.{false, cond}
 use mathlib.Core.List.{List, [], _∷_}
@@ -9,7 +9,6 @@ use native.Mathlib.Omega.{arith}
 use borrow.Author.Tests.{le-ltb}
 use denote.Ref.{now}
 use lib.ListN.{length}
-use Rattle.scenario.specs.Case.{refusalOf}
 use Rattle.scenario.specs.Refusal.{firstOf}
 use Rattle.records.specs.Layout.{Line, usedLength, recordSize}
 use Rattle.records.specs.Lines.{IsHeld}
@@ -17,14 +16,17 @@ use Rattle.records.specs.Buffer.{countAt, broken, linesIn}
 use Rattle.records.proofs.HeldLine.{not-held}
 use Rattle.records.proofs.Trailer.{sound-facts}
 use Rattle.archive.specs.Conditions.{full}
+use Rattle.archive.specs.Offers.{Offer, offer, Within}
 use Rattle.archive.specs.Archive.{emptyRefusals, fileRefusal, filing}
-use Rattle.archive.specs.Answers.{Answer, emptied, filed, emptyAnswer}
+use Rattle.archive.specs.Answers.{Answer, emptied, filed}
 use Rattle.archive.specs.declared.Filing.the-variants.{Filed, Refused}
 use Rattle.archive.proofs.Refusals.{full-exactly, full-short, full-most, file-refusal-is}
 use Rattle.history.specs.Calls.{FileCall}
 use Rattle.history.specs.Ledger.{Request, empty, file, judgedFile, answer, lines}
-use Rattle.history.specs.History.{EmptyTurn, FileTurn, Run, next, History, BySpace}
-use Rattle.history.proofs.Turns.{Stands, kept, first-stands, emptying-answer, judged-file-is}
+use Rattle.history.specs.Seen.{Way}
+use Rattle.history.specs.History.{TurnBy, RunBy, next, HistoryBy, BySpace}
+use Rattle.history.proofs.Lawful.{Lawful, turn-does}
+use Rattle.history.proofs.Turns.{Stands, kept, first-stands, judged-file-is}
 use Rattle.history.proofs.Demand3.{history-followed}
 
 -- ── full, of numbers
@@ -41,13 +43,13 @@ module _ (call : FileCall) where
   abbrev u : ℕ
   u = call .args .1 .0
 
-  abbrev c : List ℕ
-  c = now (call .args .1 .1 .0)
+  abbrev o : Offer
+  o = offer (now (call .args .1 .1 .0))
 
-  by-space : refusalOf c ≡ 0 → broken b u ≡ false → (IsHeld (linesIn b u) c → ⊥) → fileRefusal b u c ≡ cond (full (length b) u (countAt b u)) 23 0
-  by-space e s h = file-refusal-is b u c ∙ rw (e, s, not-held (linesIn b u) c h)
+  by-space : Within o → broken b u ≡ false → (IsHeld (linesIn b u) (o .case) → ⊥) → fileRefusal b u o ≡ cond (full (length b) u (countAt b u)) 23 0
+  by-space e s h = file-refusal-is b u o ∙ rw (e .case-within, s, not-held (linesIn b u) (o .case) h)
 
-  pub file-exactly : refusalOf c ≡ 0 → broken b u ≡ false → (IsHeld (linesIn b u) c → ⊥)
+  pub file-exactly : Within o → broken b u ≡ false → (IsHeld (linesIn b u) (o .case) → ⊥)
       → (u + 96 ≤ length b → countAt b u < 1000000 → call .result ≡ Filed (countAt b u) (u + 96))
       × (length b < u + 96 → call .result ≡ Refused 23)
       × (countAt b u ≡ 1000000 → call .result ≡ Refused 23)
@@ -60,37 +62,38 @@ module _ (call : FileCall) where
         λ p. call .kept .0 ∙ rw (r, full-most (length b) u (countAt b u) p),
       )
 
--- ── a filing after a history
+-- ── a filing after a history, by any lawful way of calling
 
--- on a buffer that holds n lines
-after-lines : {size : ℕ} {b : List ℕ} {u : ℕ} {ls : List Line} {c f : List ℕ} {a : Answer} {b′ : List ℕ} → Stands size b u ls → FileTurn c f b u a b′
-    → refusalOf c ≡ 0 → (IsHeld ls c → ⊥) → BySpace size (length ls) a
-unfolding answer
-after-lines {size} {ls = ls} {c = c} {f = f} s t e h =
-    let n = length ls in
-    let w = usedLength recordSize n in
-    let r : firstOf (judgedFile size ls c) ≡ cond (full size w n) 23 0 = judged-file-is size ls c ∙ rw (e, not-held ls c h) in
-    let z = kept (file c f) s t .answered in
-    let k : usedLength recordSize (n + 1) ≡ 96 * n + 112 = omega arith in (
-      λ p q. z ∙ rw (r, free size w n (omega arith) q, k),
-      λ p. z ∙ rw (r, full-short size w n (omega arith)),
-      λ p. z ∙ rw (r, full-most size w n p),
-    )
+module _ {W : Way} (l : Lawful W) where
+  -- on a buffer that holds n lines
+  after-lines : {size : ℕ} {b : List ℕ} {u : ℕ} {ls : List Line} {o : Offer} {f : List ℕ} {a : Answer} {b′ : List ℕ} → Stands size b u ls → TurnBy W (file o f) b u a b′
+      → Within o → (IsHeld ls (o .case) → ⊥) → BySpace size (length ls) a
+  unfolding answer
+  after-lines {size} {ls = ls} {o = o} {f = f} s t e h =
+      let n = length ls in
+      let w = usedLength recordSize n in
+      let r : firstOf (judgedFile size ls o) ≡ cond (full size w n) 23 0 = judged-file-is size ls o ∙ rw (e .case-within, not-held ls (o .case) h) in
+      let z = kept l (file o f) s t .answered in
+      let k : usedLength recordSize (n + 1) ≡ 96 * n + 112 = omega arith in (
+        λ p q. z ∙ rw (r, free size w n (omega arith) q, k),
+        λ p. z ∙ rw (r, full-short size w n (omega arith)),
+        λ p. z ∙ rw (r, full-most size w n p),
+      )
 
-pub filed-exactly : {b : List ℕ} {cs : List Request} {rs : List Answer} {b″ : List ℕ} {u″ : ℕ} {c f : List ℕ} {a : Answer} {b‴ : List ℕ}
-    → History b cs rs b″ u″ → FileTurn c f b″ u″ a b‴ → refusalOf c ≡ 0 → (IsHeld (lines (length b) [] cs) c → ⊥)
-    → BySpace (length b) (length (lines (length b) [] cs)) a
-filed-exactly h t e o = after-lines (history-followed h .stands) t e o
+  pub filed-exactly : {b : List ℕ} {cs : List Request} {rs : List Answer} {b″ : List ℕ} {u″ : ℕ} {o : Offer} {f : List ℕ} {a : Answer} {b‴ : List ℕ}
+      → HistoryBy (TurnBy W) b cs rs b″ u″ → TurnBy W (file o f) b″ u″ a b‴ → Within o → (IsHeld (lines (length b) [] cs) (o .case) → ⊥)
+      → BySpace (length b) (length (lines (length b) [] cs)) a
+  filed-exactly h t e n = after-lines (history-followed l h .stands) t e n
 
--- ── an empty, and the first filing behind it
+  -- ── an empty, and the first filing behind it
 
-emptied-16 : {b : List ℕ} {a : Answer} {b′ : List ℕ} → EmptyTurn b a b′ → 16 ≤ length b → a ≡ emptied 0 16
-unfolding emptyRefusals emptyAnswer
-emptied-16 {b} t h = emptying-answer t ∙ rw (le-ltb (length b) 16 h)
+  emptied-16 : {b : List ℕ} {u : ℕ} {a : Answer} {b′ : List ℕ} → TurnBy W empty b u a b′ → 16 ≤ length b → a ≡ emptied 0 16
+  unfolding emptyRefusals
+  emptied-16 {b} t h = turn-does l t .answer-is ∙ rw (le-ltb (length b) 16 h)
 
-pub first-filing : {b : List ℕ} {u : ℕ} {c f : List ℕ} {cs : List Request} {a₀ a₁ : Answer} {rs : List Answer} {b″ : List ℕ} {u″ : ℕ}
-    → Run b u (empty ∷ file c f ∷ cs) (a₀ ∷ a₁ ∷ rs) b″ u″ → 112 ≤ length b → refusalOf c ≡ 0 → (a₀ ≡ emptied 0 16) × (a₁ ≡ filed 0 0 112)
-first-filing (next t (next k r)) h e =
-    let z = emptied-16 t (omega arith) in
-    let s = first-stands (rw z at t) in
-    (z, after-lines (s .2) (rw z at k) e (λ x. not-suc-le-zero (x .there)) .0 h (omega arith))
+  pub first-filing : {b : List ℕ} {u : ℕ} {o : Offer} {f : List ℕ} {cs : List Request} {a₀ a₁ : Answer} {rs : List Answer} {b″ : List ℕ} {u″ : ℕ}
+      → RunBy (TurnBy W) b u (empty ∷ file o f ∷ cs) (a₀ ∷ a₁ ∷ rs) b″ u″ → 112 ≤ length b → Within o → (a₀ ≡ emptied 0 16) × (a₁ ≡ filed 0 0 112)
+  first-filing (next t (next k r)) h e =
+      let z = emptied-16 t (omega arith) in
+      let s = first-stands l (rw z at t) in
+      (z, after-lines (s .2) (rw z at k) e (λ x. not-suc-le-zero (x .there)) .0 h (omega arith))

@@ -1,5 +1,5 @@
 -- That there are such calls of the C interface, and histories of them: `c-history-can`. The functions meet the contracts that such a call goes by: `c-met`.
-use mathlib.Core.Path.{_≡_, refl}
+use mathlib.Core.Path.{_≡_, refl, ap}
 use mathlib.Core.List.{List, []}
 use Prim.Native.Nat.{ℕ, zero, suc, _+_, _*_, _≤_}
 use base.Fml.{Lft}
@@ -10,9 +10,10 @@ use Rattle.records.specs.Layout.{trailerSize, usedLength, recordSize, bytesAt}
 use Rattle.records.specs.Lines.{worstOf}
 use Rattle.records.specs.Buffer.{countAt, linesIn}
 use Rattle.archive.specs.Conditions.{accepted}
+use Rattle.archive.specs.Answers.{start, entry, line, answering}
 use Rattle.archive.specs.Archive.{emptyRefusal, emptyBytes, fileRefusal, fileBytes, showRefusal, showPart, worstRefusal}
+use Rattle.archive.proofs.AnswerLaws.{accepted-map}
 use Rattle.csorvelin.specs.Place.{startShown, lengthShown}
-use Rattle.archive.specs.Answers.{shown, emptyAnswer, fileAnswer, worstAnswer}
 use Rattle.csorvelin.proofs.csorvelin_work_out.Met as work-out-met
 use Rattle.csorvelin.proofs.csorvelin_work_out.Statement as work-out-statement
 use Rattle.csorvelin.proofs.csorvelin_empty.Met as empty-met
@@ -23,11 +24,11 @@ use Rattle.csorvelin.proofs.csorvelin_show.Met as show-met
 use Rattle.csorvelin.proofs.csorvelin_show.Statement as show-statement
 use Rattle.csorvelin.proofs.csorvelin_worst.Met as worst-met
 use Rattle.csorvelin.proofs.csorvelin_worst.Statement as worst-statement
-use Rattle.history.specs.Ledger.{Request, empty, file, show, worst, after}
-use Rattle.history.specs.History.{Fed, AllFed, HistoryOf}
-use Rattle.history.specs.Interface.{CEmptyTurn, CTurn}
-use Rattle.history.proofs.Turns.{kept}
-use Rattle.history.proofs.Possible.{CanTurn, history-by, lent}
+use Rattle.history.specs.Ledger.{Request, empty, file, show, worst}
+use Rattle.history.specs.History.{FedBy, TurnBy, AllFed, HistoryOf}
+use Rattle.history.specs.Interface.{empties, files, shows, names, CWorkedOut, fromC, CTurn}
+use Rattle.history.proofs.Possible.{told, left, made, Can, history-by, lent}
+use Rattle.history.proofs.Interface.{c-lawful}
 
 -- ── that there are such calls and histories
 
@@ -36,92 +37,55 @@ module _ (κ : Lft) where
   shown-place b k zero = refl
   shown-place b k (suc r) = refl
 
-  c-can-empty : (b : List ℕ) → CEmptyTurn b (emptyAnswer b) (emptyBytes b)
-  unfolding lent emptyAnswer
-  c-can-empty b = record {
-    call = record {
-      κs = (κ, (κ, tt));
-      args = (lent b, (lent 0, tt));
-      result = emptyRefusal b;
-      last = (emptyBytes b, (accepted (emptyRefusal b) trailerSize 0, tt));
-      kept = (refl, refl);
-    };
-    before = refl;
-    after = refl;
-    says = refl;
-  }
-
-  c-turn-can : (c : Request) → Fed c → (b : List ℕ) (u : ℕ) → CanTurn CTurn c b u
-  unfolding lent startShown lengthShown showPart fileAnswer worstAnswer
-  c-turn-can empty d b u = record { answer = emptyAnswer b; bytes = emptyBytes b; turn = c-can-empty b }
-  c-turn-can (file c f) d b u =
-      let r = fileRefusal b u c in
-      record {
-        answer = fileAnswer b u c;
-        bytes = fileBytes b u c;
-        turn = record {
-          call = record {
-            κs = (κ, (κ, (κ, (κ, tt))));
-            args = (lent b, (lent u, (lent c, (lent 0, tt))));
-            result = r;
-            last = (fileBytes b u c, (accepted r (usedLength recordSize (countAt b u + 1)) u, (tt, (accepted r (countAt b u) 0, tt))));
-            kept = (refl, refl);
-          };
-          before = refl;
-          at = refl;
-          case = refl;
-          after = refl;
-          says = refl;
-          fed = λ e. record {
-            call = record { κs = (κ, (κ, tt)); args = (lent c, (lent (figuresOf c), tt)); result = refusalOf c; last = (tt, (figuresOf c, tt)); kept = (refl, refl) };
-            on = refl;
-            gave = d e;
-          };
-        };
-      }
+  -- each place of an answer is the number that is given without a refusal, or the one beside it
+  c-turn-can : (c : Request) → FedBy CWorkedOut c → (b : List ℕ) (u : ℕ) → TurnBy fromC c b u (told c b u) (left c b u)
+  unfolding lent startShown lengthShown showPart
+  c-turn-can empty d b u =
+      let r = emptyRefusal b in
+      let e = ap (answering r) (accepted-map start r trailerSize 0) in
+      made c-lawful (empties (record { κs = (κ, (κ, tt)); args = (lent b, (lent 0, tt)); result = r; last = (emptyBytes b, (accepted r trailerSize 0, tt)); kept = (e, refl) })) u [] refl d
+  c-turn-can (file o f) d b u =
+      let r = fileRefusal b u o in
+      let n = countAt b u in
+      let x : ℕ × ℕ = accepted r (n, usedLength recordSize (n + 1)) (0, u) in
+      let e = ap (answering r) (accepted-map (λ (y : ℕ × ℕ). entry (y .0) (y .1)) r (n, usedLength recordSize (n + 1)) (0, u)) in
+      made c-lawful
+      (files (record {
+        κs = (κ, (κ, (κ, (κ, tt))));
+        args = (lent b, (lent u, (lent (o .case), (lent 0, tt))));
+        result = r;
+        last = (fileBytes b u o, (x .1, (tt, (x .0, tt))));
+        kept = (e, refl);
+      })) u f refl d
   c-turn-can (show k) d b u =
       let r = showRefusal b u k in
-      record {
-        answer = shown r (bytesAt b (startShown b u k) (lengthShown b u k));
-        bytes = b;
-        turn = record {
-          call = record {
-            κs = (κ, (κ, (κ, tt)));
-            args = (lent b, (u, (k, (lent 0, (lent 0, tt)))));
-            result = r;
-            last = (tt, (tt, (tt, (startShown b u k, (lengthShown b u k, tt)))));
-            kept = (refl, refl, refl, shown-place b k r);
-          };
-          before = refl;
-          at = refl;
-          number = refl;
-          after = refl;
-          says = refl;
-        };
-      }
+      made c-lawful
+      (shows (record {
+        κs = (κ, (κ, (κ, tt)));
+        args = (lent b, (u, (k, (lent 0, (lent 0, tt)))));
+        result = r;
+        last = (tt, (tt, (tt, (startShown b u k, (lengthShown b u k, tt)))));
+        kept = (refl, refl, refl, shown-place b k r);
+      })) u [] refl d
   c-turn-can (worst m) d b u =
       let r = worstRefusal b u m in
-      record {
-        answer = worstAnswer b u m;
-        bytes = b;
-        turn = record {
-          call = record {
-            κs = (κ, (κ, tt));
-            args = (lent b, (u, (m, (lent 0, tt))));
-            result = r;
-            last = (tt, (tt, (tt, (accepted r (worstOf m (linesIn b u)) 0, tt))));
-            kept = refl;
-          };
-          before = refl;
-          at = refl;
-          compartment = refl;
-          after = refl;
-          says = refl;
-        };
-      }
+      let w = worstOf m (linesIn b u) in
+      let e = ap (answering r) (accepted-map line r w 0) in
+      made c-lawful (names (record { κs = (κ, (κ, tt)); args = (lent b, (u, (m, (lent 0, tt)))); result = r; last = (tt, (tt, (tt, (accepted r w 0, tt)))); kept = e })) u [] refl d
+
+  c-can : Can fromC
+  unfolding lent
+  c-can = record {
+    turn = c-turn-can;
+    work-out = λ c f e. record {
+      call = record { κs = (κ, (κ, tt)); args = (lent c, (lent (figuresOf c), tt)); result = refusalOf c; last = (tt, (figuresOf c, tt)); kept = (refl, refl) };
+      on = refl;
+      gave = e;
+    };
+  }
 
   pub c-history-can : (cs : List Request) → AllFed cs → (b : List ℕ) → 16 ≤ length b → HistoryOf CTurn b cs
-  c-history-can cs d b h = history-by CTurn c-turn-can cs d b (c-can-empty b) h
+  c-history-can = history-by c-can
 
 -- ── the functions meet the contracts that a call goes by
 

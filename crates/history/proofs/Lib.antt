@@ -1,4 +1,5 @@
 -- Laws, and the theorems over calls and histories.
+pub mod Lawful
 pub mod Demand1
 pub mod Turns
 pub mod Demand3

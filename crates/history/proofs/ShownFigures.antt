@@ -8,7 +8,7 @@ use Rattle.binary64.specs.Bytes.{numberAt}
 use Rattle.archive.specs.Archive.{showRefusal, isRecord, recordFigures}
 use Rattle.archive.proofs.FiguresRead.{shown-record, shown-no-record}
 use Rattle.history.specs.Calls.{ShowCall, ShowRefusalCall, FiguresCall, SameArguments}
-use Rattle.history.proofs.Demand1.{told-is}
+use Rattle.history.proofs.Lawful.{told-is}
 
 -- Show of record k lends it, and its four figures are the numbers at 64, 72, 80 and 88 behind its first byte; beside a refusal there is no record.
 pub shown-figures : (call : ShowCall) (told : ShowRefusalCall) (read : FiguresCall) → SameArguments call told → now (read .args .0) ≡ now (call .result)

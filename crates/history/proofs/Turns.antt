@@ -1,31 +1,33 @@
--- What goes through the induction, as one record: `Stands`. One call from there answers as the ledger does and stands again: `kept`.
--- Lines: `all-held-snoc`, `held-line`. The first empty, from any buffer: `first-stands`.
+-- What goes through the induction, as one record: `Stands`. One call from there, by any lawful way, answers as the ledger does and stands again: `kept`.
+-- A request's effect on the buffer and the ledger's ruling are alike, `alike`, one clause for each request; the refused case is one law for all of them.
+-- The first empty, from any buffer: `first-stands`.
 use mathlib.Core.Path.{_≡_, refl, sym, ap, _∙_}
-use mathlib.Core.Bool.{Bool, true, false, cond}
 use mathlib.Core.List.{List, [], _∷_, _++_}
-use Prim.Native.Nat.{ℕ, zero, suc, _+_, _*_, _-_, _≤_, _<_}
+use Prim.Native.Nat.{ℕ, zero, suc, _+_, _≤_, _<_}
 use native.Mathlib.Omega.{arith}
 use borrow.Author.Tests.{ltb-false, leb-false}
 use lib.Dec.{ltb, leb}
-use lib.ListN.{length, getD}
-use Rattle.binary64.specs.Bytes.{splice}
-use Rattle.scenario.specs.Refusal.{firstOf}
+use lib.ListN.{length}
+use Rattle.scenario.specs.Refusal.{_when_, firstOf}
 use Rattle.scenario.specs.Case.{refusalOf}
 use Rattle.scenario.proofs.Refusals.{none-holds}
 use Rattle.emission.specs.Figures.{figuresOf}
 use Rattle.emission.proofs.Demand2.{figure-bounds}
-use Rattle.records.specs.Layout.{Line, noLine, recordOf, trailer, trailerSize, usedLength, mostRecords, recordSize, edition, bytesAt}
-use Rattle.archive.specs.Conditions.{accepted}
-use Rattle.records.specs.Lines.{held}
-use Rattle.archive.specs.Answers.{Answer, emptied, shown, ofFiling, emptyAnswer, fileAnswer, worstAnswer, handed}
-use Rattle.history.specs.Ledger.{Request, empty, file, show, worst, judgedEmpty, fromLines, judgedFile, judgedShow, judgedWorst, answer, after}
-use Rattle.archive.specs.Archive.{emptyRefusals, emptyRefusal, emptyBytes, fileRefusal, lineFor, fileBytes, showRefusals, showRefusal, showPart, worstRefusals}
+use Rattle.records.specs.Layout.{Line, trailerSize, usedLength, mostRecords, recordSize}
 use Rattle.records.specs.Buffer.{written}
-use Rattle.history.proofs.Demand1.{told-is}
-use Rattle.archive.proofs.Cases.{storable-line}
 use Rattle.records.proofs.Holding.{HoldsLines, count-is, sound-is, lines-are, record-is, length-emptied, emptied-holds, length-written, written-holds}
+use Rattle.archive.specs.Conditions.{accepted}
+use Rattle.archive.specs.Offers.{Offer, Within, lineWith}
+use Rattle.archive.specs.Answers.{start, entry, part, Answer, emptied, usedIn, handed, Effect, refusalBy, answerBy, leftBy}
+use Rattle.archive.specs.Archive.{emptyRefusals, emptyEffect, emptyRefusal, lineFor, showRefusals, worstRefusals}
+use Rattle.archive.proofs.AnswerLaws.{same-answer}
+use Rattle.archive.proofs.Cases.{storable-line}
 use Rattle.archive.proofs.Refusals.{full-exactly, orElse, behind-case, both-zero, file-refusal-is}
-use Rattle.history.specs.History.{WorkedOut, EmptyTurn, FileTurn, ShowTurn, WorstTurn, Turn, HeldLine, AllHeld}
+use Rattle.history.specs.Ledger.{Request, empty, file, show, worst, fromLines, judgedFile, ruling, answer, after}
+use Rattle.history.specs.Seen.{effect, Way}
+use Rattle.history.specs.Calls.{WorkedOut}
+use Rattle.history.specs.History.{FedBy, TurnBy, HeldLine, AllHeld}
+use Rattle.history.proofs.Lawful.{Lawful, fed-map, turn-does}
 
 -- the buffer b of a size, at the used length u, holds the lines ls, each worked out and within its bounds
 pub record Stands (size : ℕ) (b : List ℕ) (u : ℕ) (ls : List Line) : Type 0 where
@@ -46,27 +48,24 @@ all-held-snoc (m ∷ ls) l g h = (g .0, all-held-snoc ls l (g .1) h)
 worked-figures : {c f : List ℕ} → WorkedOut c f → f ≡ figuresOf c
 worked-figures w = w .gave ∙ w .call .kept .1 ∙ ap figuresOf (w .on)
 
-held-line : (c f : List ℕ) → refusalOf c ≡ 0 → WorkedOut c f → HeldLine (record { case = c; figures = f })
-held-line c f e w =
+held-line : (o : Offer) (f : List ℕ) → Within o → WorkedOut (o .case) f → HeldLine (lineWith o f)
+held-line o f r w =
     let k = w .call in
+    let e = r .case-within in
     record { within-ranges = e; worked = w; bounds = λ i h. rw (← w .on, w .gave) (figure-bounds k (k .kept .0 ∙ ap refusalOf (w .on) ∙ e) i h) }
-
--- ── empty, on any buffer
-
-pub emptying-answer : {b : List ℕ} {a : Answer} {b′ : List ℕ} → EmptyTurn b a b′ → a ≡ emptyAnswer b
-emptying-answer t = t .says ∙ t .call .kept .2 ∙ ap emptyAnswer (t .before)
-
-emptying-bytes : {b : List ℕ} {a : Answer} {b′ : List ℕ} → EmptyTurn b a b′ → b′ ≡ emptyBytes b
-emptying-bytes t = sym (t .after) ∙ t .call .kept .1 ∙ ap emptyBytes (t .before)
-
-emptied-stands : (b : List ℕ) → trailerSize ≤ length b → Stands (length b) (splice b 0 (trailer recordSize edition 0)) trailerSize []
-emptied-stands b h = record { holds = emptied-holds b h; size-is = length-emptied b h; held = tt }
 
 -- ── a filing's refusals, as the ledger judges them: the case's own, then these
 
-pub judged-file-is : (size : ℕ) (ls : List Line) (c : List ℕ) → firstOf (judgedFile size ls c) ≡ orElse (refusalOf c) (firstOf (fromLines size ls c))
+pub judged-file-is : (size : ℕ) (ls : List Line) (o : Offer) → firstOf (judgedFile size ls o) ≡ orElse (refusalOf (o .case)) (firstOf (fromLines size ls o))
 unfolding judgedFile
-judged-file-is size ls c = behind-case c (fromLines size ls c)
+judged-file-is size ls o = behind-case (o .case) (fromLines size ls o)
+
+-- ── empty, on any buffer
+
+emptied-stands : (b : List ℕ) → refusalBy (ruling (length b) [] empty) ≡ 0 → Stands (length b) (emptyEffect b .leaves) trailerSize []
+emptied-stands b z =
+    let h = ltb-false (length b) trailerSize (none-holds ((23 when ltb (length b) trailerSize) ∷ []) refl z 0) in
+    record { holds = emptied-holds b h; size-is = length-emptied b h; held = tt }
 
 -- ── a call from a buffer b that holds the lines ls at the used length u
 
@@ -74,95 +73,80 @@ module _ {b : List ℕ} {u : ℕ} {ls : List Line} (h : HoldsLines b u ls) (g : 
   still : Stands (length b) b u ls
   still = record { holds = h; size-is = refl; held = g }
 
-  show-answer : (k : ℕ) (t : Bool) → leb (length ls) k ≡ t
-      → accepted (cond t 24 0) (bytesAt b (recordSize * k) recordSize) [] ≡ accepted (cond t 24 0) (recordOf (getD ls k noLine)) []
-  show-answer k true e = refl
-  show-answer k false e = record-is h k (leb-false (length ls) k e)
-
-  show-kept : {k : ℕ} {a : Answer} {b′ : List ℕ} → ShowTurn k b u a b′ → Kept (length b) u ls (show k) a b′
-  unfolding answer after showRefusals showPart judgedShow
-  show-kept {k} t =
-      let e : _ ≡ shown (showRefusal b u k) (showPart b u k) =
-      t .says ∙ λ i. shown ((told-is (t .call) (t .told) (t .same) ∙ λ j. showRefusal (t .before j) (t .at j) (t .number j)) i) ((t .call .kept ∙ λ j. showPart (t .before j) (t .at j) (t .number j)) i) in
-      record {
-        answered = e ∙ rw (sound-is h, count-is h) (ap (shown (cond (leb (length ls) k) 24 0)) (show-answer k (leb (length ls) k) refl));
-        stands = rw (e, sym (t .after) ∙ t .before) still;
-      }
-
-  worst-kept : {m : ℕ} {a : Answer} {b′ : List ℕ} → WorstTurn m b u a b′ → Kept (length b) u ls (worst m) a b′
-  unfolding answer after worstRefusals judgedWorst worstAnswer
-  worst-kept {m} t =
-      let e : _ ≡ worstAnswer b u m = t .says ∙ t .call .kept .1 ∙ λ i. worstAnswer (t .before i) (t .at i) (t .compartment i) in
-      record { answered = e ∙ rw (sound-is h, lines-are h, count-is h); stands = rw (e, sym (t .after) ∙ t .before) still }
-
-  empty-stands : (t : Bool) → ltb (length b) trailerSize ≡ t
-      → Stands (length b) (accepted (cond t 23 0) (splice b 0 (trailer recordSize edition 0)) b) (accepted (cond t 23 0) (accepted (cond t 23 0) trailerSize 0) u) (accepted (cond t 23 0) [] ls)
-  empty-stands true e = still
-  empty-stands false e = emptied-stands b (ltb-false (length b) trailerSize e)
-
-  empty-kept : {a : Answer} {b′ : List ℕ} → EmptyTurn b a b′ → Kept (length b) u ls empty a b′
-  unfolding answer after emptyRefusals emptyBytes emptyAnswer judgedEmpty
-  empty-kept t = record {
-    answered = emptying-answer t;
-    stands = rw (emptying-answer t, emptying-bytes t) (empty-stands (ltb (length b) trailerSize) refl);
-  }
-
-  -- file's refusal is the ledger's
-  same-refusal : (c : List ℕ) → fileRefusal b u c ≡ firstOf (judgedFile (length b) ls c)
-  same-refusal c = file-refusal-is b u c ∙ rw (sound-is h, lines-are h, count-is h, h .length-is) (sym (judged-file-is (length b) ls c))
-
-  record FreeLines (c : List ℕ) : Type 0 where
-    pub within-ranges : refusalOf c ≡ 0
+  record FreeLines (o : Offer) : Type 0 where
+    pub within : Within o
     pub room : u + recordSize ≤ length b
     pub fewer : length ls < mostRecords
 
-  free-lines : (c : List ℕ) → firstOf (judgedFile (length b) ls c) ≡ 0 → FreeLines c
-  free-lines c e =
-      let z = both-zero (refusalOf c) (firstOf (fromLines (length b) ls c)) (sym (judged-file-is (length b) ls c) ∙ e) in
-      let f = full-exactly (length b) (usedLength recordSize (length ls)) (length ls) .0 (none-holds (fromLines (length b) ls c) refl (z .1) 1) in
+  free-lines : (o : Offer) → firstOf (judgedFile (length b) ls o) ≡ 0 → FreeLines o
+  free-lines o e =
+      let z = both-zero (refusalOf (o .case)) (firstOf (fromLines (length b) ls o)) (sym (judged-file-is (length b) ls o) ∙ e) in
+      let f = full-exactly (length b) (usedLength recordSize (length ls)) (length ls) .0 (none-holds (fromLines (length b) ls o) refl (z .1) 1) in
       let n = f .1 in
-      record { within-ranges = z .0; room = rw (h .length-is) (f .0); fewer = omega (arith, h .few) }
+      record { within = record { case-within = z .0 }; room = rw (h .length-is) (f .0); fewer = omega (arith, h .few) }
 
-  file-stands : (c f : List ℕ) (r : ℕ) → (r ≡ 0 → FreeLines c) → (refusalOf c ≡ 0 → WorkedOut c f)
-      → Stands (length b) (accepted r (written b (length ls) (lineFor c)) b) (accepted r (accepted r (usedLength recordSize (length ls + 1)) u) u) (accepted r (ls ++ (record { case = c; figures = f } ∷ [])) ls)
-  file-stands c f zero free fed =
-      let z = free refl in
-      let w = fed (z .within-ranges) in
-      let l = storable-line c (z .within-ranges) in
+  file-stands : (o : Offer) (f : List ℕ) → FreeLines o → (Within o → WorkedOut (o .case) f)
+      → Stands (length b) (written b (length ls) (lineFor o)) (usedLength recordSize (length ls + 1)) (ls ++ (lineWith o f ∷ []))
+  file-stands o f z fed =
+      let w = fed (z .within) in
+      let l = storable-line o (z .within) in
       record {
-        holds = rw (worked-figures w) (written-holds h (lineFor c) l (z .room) (z .fewer));
-        size-is = length-written h (lineFor c) l (z .room) (z .fewer);
-        held = all-held-snoc ls (record { case = c; figures = f }) g (held-line c f (z .within-ranges) w);
-      }
-  file-stands c f (suc r) free fed = still
-
-  file-kept : {c f : List ℕ} {a : Answer} {b′ : List ℕ} → FileTurn c f b u a b′ → Kept (length b) u ls (file c f) a b′
-  unfolding answer after fileBytes fileAnswer
-  file-kept {c} {f} t =
-      let e : _ ≡ fileAnswer b u c = t .says ∙ ap (ofFiling (t .call .result)) (sym (t .at)) ∙ t .call .kept .2 ∙ λ i. fileAnswer (t .before i) (t .at i) (t .case i) in
-      let o = sym (t .after) ∙ t .call .kept .1 ∙ λ i. fileBytes (t .before i) (t .at i) (t .case i) in
-      record {
-        answered = e ∙ rw (same-refusal c, count-is h, h .length-is);
-        stands = rw (e, o, same-refusal c, count-is h) (file-stands c f (firstOf (judgedFile (length b) ls c)) (free-lines c) (t .fed));
+        holds = rw (worked-figures w) (written-holds h (lineFor o) l (z .room) (z .fewer));
+        size-is = length-written h (lineFor o) l (z .room) (z .fewer);
+        held = all-held-snoc ls (lineWith o f) g (held-line o f (z .within) w);
       }
 
-  kept-of : (c : Request) {a : Answer} {b′ : List ℕ} → Turn c b u a b′ → Kept (length b) u ls c a b′
-  kept-of empty t = empty-kept t
-  kept-of (file c f) t = file-kept t
-  kept-of (show k) t = show-kept t
-  kept-of (worst m) t = worst-kept t
+  -- the same refusal; where there is none the same places, and a buffer that stands; the same places beside a refusal
+  record Alike (e : Effect (List ℕ)) (j : Effect (List Line)) : Type 0 where
+    pub refused : refusalBy e ≡ refusalBy j
+    pub given : refusalBy j ≡ 0 → e .gives ≡ j .gives
+    pub stands : refusalBy j ≡ 0 → Stands (length b) (e .leaves) (usedIn (e .gives) u) (j .leaves)
+    pub beside : e .beside ≡ j .beside
 
-pub kept : {size : ℕ} {b : List ℕ} {u : ℕ} {ls : List Line} (c : Request) {a : Answer} {b′ : List ℕ} → Stands size b u ls → Turn c b u a b′ → Kept size u ls c a b′
-kept c s t = rw (← s .size-is) (kept-of (s .holds) (s .held) c t)
+  alike : (c : Request) → FedBy WorkedOut c → Alike (effect c b u) (ruling (length b) ls c)
+  unfolding emptyRefusals showRefusals worstRefusals
+  alike empty d = record { refused = refl; given = λ z. refl; stands = emptied-stands b; beside = refl }
+  alike (file o f) d = record {
+    refused = file-refusal-is b u o ∙ rw (sound-is h, lines-are h, count-is h, h .length-is) (sym (judged-file-is (length b) ls o));
+    given = λ z. rw (count-is h);
+    stands = λ z. rw (count-is h) (file-stands o f (free-lines o z) d);
+    beside = ap (entry 0) (h .length-is);
+  }
+  alike (show k) d = record {
+    refused = rw (sound-is h, count-is h);
+    given = λ z. ap part (record-is h k (leb-false (length ls) k (none-holds ((24 when leb (length ls) k) ∷ []) refl z 0)));
+    stands = λ z. still;
+    beside = refl;
+  }
+  alike (worst m) d = record { refused = rw (sound-is h, count-is h); given = λ z. rw (lines-are h); stands = λ z. still; beside = refl }
+
+  -- by the refusal
+  either : (e : Effect (List ℕ)) (j : Effect (List Line)) (r : ℕ) → (r ≡ 0 → Stands (length b) (e .leaves) (usedIn (e .gives) u) (j .leaves))
+      → Stands (length b) (accepted r (e .leaves) b) (accepted r (usedIn (accepted r (e .gives) (e .beside)) u) u) (accepted r (j .leaves) ls)
+  either e j zero s = s refl
+  either e j (suc r) s = still
+
+  kept-of : (c : Request) → FedBy WorkedOut c → Kept (length b) u ls c (answerBy (effect c b u)) (leftBy (effect c b u) b)
+  unfolding answer after
+  kept-of c d =
+      let a = alike c d in
+      let e = effect c b u in
+      let j = ruling (length b) ls c in
+      record { answered = same-answer e j (a .refused) (a .given) (a .beside); stands = rw (a .refused) (either e j (refusalBy j) (a .stands)) }
+
+pub kept : {W : Way} (l : Lawful W) {size : ℕ} {b : List ℕ} {u : ℕ} {ls : List Line} (c : Request) {a : Answer} {b′ : List ℕ} → Stands size b u ls → TurnBy W c b u a b′ → Kept size u ls c a b′
+kept l c s t =
+    let d = turn-does l t in
+    rw (d .answer-is, d .after-is, ← s .size-is) (kept-of (s .holds) (s .held) c (fed-map (l .worked) c (t .fed)))
 
 -- ── the first call, an accepted empty, on any buffer
 
-pub first-stands : {b : List ℕ} {v : ℕ} {b′ : List ℕ} → EmptyTurn b (emptied 0 v) b′
+pub first-stands : {W : Way} (l : Lawful W) {b : List ℕ} {u v : ℕ} {b′ : List ℕ} → TurnBy W empty b u (emptied 0 v) b′
     → (emptied 0 v ≡ answer (length b) [] empty) × (after (length b) [] empty ≡ []) × Stands (length b) b′ v []
-unfolding answer after emptyRefusals emptyBytes emptyAnswer judgedEmpty
-first-stands {b} {v} t =
-    let e = emptying-answer t in
-    let z : 0 ≡ emptyRefusal b = cc e in
-    let f : ltb (length b) trailerSize ≡ false = none-holds (emptyRefusals b) refl (sym z) 0 in
-    let w : v ≡ accepted (emptyRefusal b) trailerSize 0 = cc e in
-    (e, rw f, rw (emptying-bytes t, w, f) (emptied-stands b (ltb-false (length b) trailerSize f)))
+unfolding answer after emptyRefusals
+first-stands l {b} {u} {v} t =
+    let d = turn-does l t in
+    let r = emptyRefusal b in
+    let z : 0 ≡ r = λ i. d .answer-is i .refusal in
+    let w : v ≡ usedIn (accepted r (start 16) (start 0)) 0 = (λ i. usedIn (d .answer-is i .places) 0) in
+    (d .answer-is, rw (← z), rw (d .after-is, w, ← z) (emptied-stands b (sym z)))

@@ -18,12 +18,12 @@ use Rattle.emission.specs.Figures.{exactValues, figuresOf}
 use Rattle.records.specs.Layout.{figureBytes, recordOf, records, trailer, archiveOf, recordSize, edition}
 use Rattle.records.specs.Lines.{sameFiling, held, figure, worstBy, worstOf}
 use Rattle.archive.specs.Conditions.{full}
-use Rattle.history.specs.Ledger.{judgedEmpty, judgedFile, judgedShow, judgedWorst, answer, after, answers, lines}
+use Rattle.history.specs.Ledger.{judgedFile, answer, after, answers, lines}
 use Rattle.history.specs.History.{AllFed}
 use Rattle.history.specs.WorkedHistory.{Told, workedHistory, workedArchive}
 
 pub worked-history : answers 496 [] (map (λ (t : Told). t .call) workedHistory) ≡ map (λ (t : Told). t .answer) workedHistory
-unfolding workedHistory answers answer after judgedEmpty judgedFile judgedShow judgedWorst sameFiling held full figure worstBy worstOf figureBytes recordOf caseBytes bytesOf numberOf numberAt kinds kindAt notSixtyFour kindUnknown rowUnknown routeNotAllowed userNotAllowed countNotAllowed notNumber isUnsignedFinite notZeroBytes overLimit whole wholeAt sumOver summedOf sumWithin sumFrom add le ofBits
+unfolding workedHistory answers answer after judgedFile sameFiling held full figure worstBy worstOf figureBytes recordOf caseBytes bytesOf numberOf numberAt kinds kindAt notSixtyFour kindUnknown rowUnknown routeNotAllowed userNotAllowed countNotAllowed notNumber isUnsignedFinite notZeroBytes overLimit whole wholeAt sumOver summedOf sumWithin sumFrom add le ofBits
 worked-history = refl
 
 infixr 1 _and_
@@ -42,5 +42,5 @@ worked-fed =
     and tt
 
 pub worked-archive : archiveOf recordSize edition (lines 496 [] (map (λ (t : Told). t .call) workedHistory)) ≡ workedArchive
-unfolding workedHistory lines after judgedEmpty judgedFile sameFiling held full figureBytes recordOf records trailer archiveOf caseBytes bytesOf numberOf numberAt kinds kindAt notSixtyFour kindUnknown rowUnknown routeNotAllowed userNotAllowed countNotAllowed notNumber isUnsignedFinite notZeroBytes overLimit whole wholeAt sumOver summedOf sumWithin sumFrom add le ofBits
+unfolding workedHistory lines after judgedFile sameFiling held full figureBytes recordOf records trailer archiveOf caseBytes bytesOf numberOf numberAt kinds kindAt notSixtyFour kindUnknown rowUnknown routeNotAllowed userNotAllowed countNotAllowed notNumber isUnsignedFinite notZeroBytes overLimit whole wholeAt sumOver summedOf sumWithin sumFrom add le ofBits
 worked-archive = refl

@@ -1,19 +1,19 @@
--- The calls of `archive`, and what demand 1 asks of each of them. A call of work out is `WorkOutCall` of emission/proofs/Demand2.
+-- The calls of `archive`, each as it is seen. A call of work out is `WorkOutCall` of emission/proofs/Demand2.
 use mathlib.Core.Path.{_≡_}
-use mathlib.Core.List.{List}
+use mathlib.Core.List.{List, []}
 use Prim.Native.Nat.{ℕ, _+_, _*_}
 use denote.Ref.{now}
-use Rattle.binary64.specs.Bytes.{splice}
-use Rattle.scenario.specs.Refusal.{Condition, IsFirst}
 use Rattle.emission.specs.Called.{Called, ends}
-use Rattle.records.specs.Layout.{trailer, usedLength, recordSize, edition, bytesAt}
-use Rattle.records.specs.Lines.{worstOf, IsWorst}
-use Rattle.records.specs.Buffer.{countAt, linesIn, written}
-use Rattle.archive.specs.Archive.{emptyRefusals, fileRefusals, lineFor, showRefusals, worstRefusals}
-use Rattle.archive.specs.Answers.{ofEmptied, ofFiling, ofHighest, refusalIn}
-use Rattle.archive.specs.declared.Emptied.the-variants.{Used}
-use Rattle.archive.specs.declared.Filing.the-variants.{Filed}
-use Rattle.archive.specs.declared.Highest.the-variants.{Number}
+use Rattle.emission.proofs.Demand2.{WorkOutCall}
+use Rattle.records.specs.Layout.{usedLength, recordSize, bytesAt}
+use Rattle.records.specs.Lines.{worstOf}
+use Rattle.records.specs.Buffer.{countAt, linesIn}
+use Rattle.archive.specs.Conditions.{accepted}
+use Rattle.archive.specs.Offers.{offer}
+use Rattle.archive.specs.Answers.{shown, ofEmptied, ofFiling, ofHighest}
+use Rattle.archive.specs.declared.Emptied.the-variants.{Used, Refused}
+use Rattle.archive.specs.declared.Filing.the-variants.{Filed, Refused as NotFiled}
+use Rattle.archive.specs.declared.Highest.the-variants.{Number, Refused as NotNamed}
 use Rattle.archive.proofs.empty.Kinds as empty-kinds
 use Rattle.archive.proofs.empty.Reads as empty-reads
 use Rattle.archive.proofs.file.Kinds as file-kinds
@@ -26,6 +26,8 @@ use Rattle.archive.proofs.worst.Kinds as worst-kinds
 use Rattle.archive.proofs.worst.Reads as worst-reads
 use Rattle.archive.proofs.figures_of.Kinds as figures-of-kinds
 use Rattle.archive.proofs.figures_of.Reads as figures-of-reads
+use Rattle.history.specs.Ledger.{empty, file, show, worst}
+use Rattle.history.specs.Seen.{Seen, seeing, Way}
 
 abbrev pub EmptyCall : Type 0
 EmptyCall = Called 1 empty-kinds.ps empty-kinds.r empty-reads.Learnt
@@ -51,39 +53,35 @@ pub record SameArguments (call : ShowCall) (told : ShowRefusalCall) : Type 0 whe
   pub used : told .args .1 .0 ≡ call .args .1 .0
   pub number : told .args .1 .1 .0 ≡ call .args .1 .1 .0
 
--- ── demand 1
+-- ── each as it is seen
 
--- Of a call's list of conditions and its refusal r: r is n exactly when n is the number of the first that holds, or none holds
--- and n is 0; and then the result is the stated one.
-pub record InOrder (cs : List Condition) (r : ℕ) (Stated : Type 0) : Type 0 where
-  pub first : (n : ℕ) → (r ≡ n → IsFirst cs n) × (IsFirst cs n → r ≡ n)
-  pub otherwise : r ≡ 0 → Stated
+pub data ArchiveCall : Type 0 where
+  empties : EmptyCall → ArchiveCall
+  files : FileCall → ArchiveCall
+  shows : (call : ShowCall) (told : ShowRefusalCall) → SameArguments call told → ArchiveCall
+  names : WorstCall → ArchiveCall
 
-abbrev pub EmptyInOrder : EmptyCall → Type 0
-EmptyInOrder call =
-    let b = now (call .args .0) in
-    InOrder (emptyRefusals b) (refusalIn (ofEmptied (call .result)))
-    ((call .result ≡ Used 16) × (now (ends call .0) ≡ splice b 0 (trailer recordSize edition 0)))
+-- the refusal of show is the companion's result
+abbrev pub archiveSeen : ArchiveCall → ℕ → List ℕ → Seen
+archiveSeen (empties k) u f = seeing empty (now (k .args .0)) u (ofEmptied (k .result)) (now (ends k .0))
+archiveSeen (files k) u f = let v = k .args .1 .0 in seeing (file (offer (now (k .args .1 .1 .0))) f) (now (k .args .0)) v (ofFiling (k .result) v) (now (ends k .0))
+archiveSeen (shows k t s) u f = seeing (show (k .args .1 .1 .0)) (now (k .args .0)) (k .args .1 .0) (shown (t .result) (now (k .result))) (now (ends k .0))
+archiveSeen (names k) u f = seeing (worst (k .args .1 .1 .0)) (now (k .args .0)) (k .args .1 .0) (ofHighest (k .result)) (now (ends k .0))
 
-abbrev pub FileInOrder : FileCall → Type 0
-FileInOrder call =
-    let b = now (call .args .0) in
-    let u = call .args .1 .0 in
-    let c = now (call .args .1 .1 .0) in
-    InOrder (fileRefusals b u c) (refusalIn (ofFiling (call .result) u))
-    ((call .result ≡ Filed (countAt b u) (usedLength recordSize (countAt b u + 1))) × (now (ends call .0) ≡ written b (countAt b u) (lineFor c)))
+-- the result in the type that it has: without a refusal, and beside the refusal r
+abbrev pub Returned : ArchiveCall → ℕ → Type 0
+Returned (empties k) r = k .result ≡ accepted r (Used 16) (Refused r)
+Returned (files k) r =
+    let n = countAt (now (k .args .0)) (k .args .1 .0) in
+    k .result ≡ accepted r (Filed n (usedLength recordSize (n + 1))) (NotFiled r)
+Returned (shows k t s) r = now (k .result) ≡ accepted r (bytesAt (now (k .args .0)) (recordSize * k .args .1 .1 .0) recordSize) []
+Returned (names k) r = k .result ≡ accepted r (Number (worstOf (k .args .1 .1 .0) (linesIn (now (k .args .0)) (k .args .1 .0)))) (NotNamed r)
 
-abbrev pub ShowInOrder : ShowCall → ShowRefusalCall → Type 0
-ShowInOrder call told =
-    let b = now (call .args .0) in
-    let u = call .args .1 .0 in
-    let k = call .args .1 .1 .0 in
-    InOrder (showRefusals b u k) (told .result) (now (call .result) ≡ bytesAt b (recordSize * k) recordSize)
+-- work out, called on the case c, gave the figures f
+pub record WorkedOut (c f : List ℕ) : Type 0 where
+  pub call : WorkOutCall
+  pub on : now (call .args .0) ≡ c
+  pub gave : f ≡ call .result .figures
 
-abbrev pub WorstInOrder : WorstCall → Type 0
-WorstInOrder call =
-    let b = now (call .args .0) in
-    let u = call .args .1 .0 in
-    let m = call .args .1 .1 .0 in
-    InOrder (worstRefusals b u m) (refusalIn (ofHighest (call .result)))
-    ((call .result ≡ Number (worstOf m (linesIn b u))) × IsWorst m (linesIn b u) (worstOf m (linesIn b u)))
+abbrev pub direct : Way
+direct = record { Call = ArchiveCall; seen = archiveSeen; WorkedOut = WorkedOut }

@@ -2,70 +2,39 @@
 use mathlib.Core.Path.{_≡_}
 use mathlib.Core.List.{List, [], _∷_}
 use Prim.Native.Nat.{ℕ, _+_, _*_, _≤_, _<_}
-use denote.Ref.{now}
 use lib.ListN.{length, getD, take}
 use Rattle.scenario.specs.Case.{refusalOf}
 use Rattle.product.specs.Ratio.{_over_}
-use Rattle.emission.specs.Called.{ends}
-use Rattle.emission.proofs.Demand2.{WorkOutCall}
 use Rattle.emission.specs.Figures.{exactValues, figuresOf, WithinBounds, margin}
 use Rattle.records.specs.Layout.{Line, archiveOf, usedLength, recordSize, edition}
-use Rattle.archive.specs.Answers.{Answer, emptied, filed, shown, ofEmptied, ofFiling, ofHighest, handed}
-use Rattle.history.specs.Calls.{EmptyCall, FileCall, ShowCall, ShowRefusalCall, WorstCall, SameArguments}
+use Rattle.archive.specs.Offers.{Within}
+use Rattle.archive.specs.Answers.{Answer, emptied, filed, handed}
 use Rattle.history.specs.Ledger.{Request, empty, file, show, worst, answers, lines}
+use Rattle.history.specs.Seen.{seeing, Way}
+use Rattle.history.specs.Calls.{WorkedOut, direct}
 
 -- ── one call, on the buffer b at the used length u, with its answer a and the buffer b′ as it leaves it
 
--- work out, called on the case c, gave the figures f
-pub record WorkedOut (c f : List ℕ) : Type 0 where
-  pub call : WorkOutCall
-  pub on : now (call .args .0) ≡ c
-  pub gave : f ≡ call .result .figures
+-- The figures f are free where what is offered is out of range: the ledger is fed none then.
+abbrev pub FedBy : (List ℕ → List ℕ → Type 0) → Request → Type 0
+FedBy W empty = Unit {0}
+FedBy W (file o f) = Within o → W (o .case) f
+FedBy W (show k) = Unit {0}
+FedBy W (worst m) = Unit {0}
 
-pub record EmptyTurn (b : List ℕ) (a : Answer) (b′ : List ℕ) : Type 0 where
-  pub call : EmptyCall
-  pub before : now (call .args .0) ≡ b
-  pub after : now (ends call .0) ≡ b′
-  pub says : a ≡ ofEmptied (call .result)
+pub record TurnBy (W : Way) (c : Request) (b : List ℕ) (u : ℕ) (a : Answer) (b′ : List ℕ) : Type 0 where
+  pub call : W .Call
+  pub figures : List ℕ
+  pub seen : W .seen call u figures ≡ seeing c b u a b′
+  pub fed : FedBy (W .WorkedOut) c
 
--- The figures f are free where the case c is refused by its ranges: the ledger is fed none then.
-pub record FileTurn (c f b : List ℕ) (u : ℕ) (a : Answer) (b′ : List ℕ) : Type 0 where
-  pub call : FileCall
-  pub before : now (call .args .0) ≡ b
-  pub at : call .args .1 .0 ≡ u
-  pub case : now (call .args .1 .1 .0) ≡ c
-  pub after : now (ends call .0) ≡ b′
-  pub says : a ≡ ofFiling (call .result) u
-  pub fed : refusalOf c ≡ 0 → WorkedOut c f
-
--- The answer's refusal is the companion's result.
-pub record ShowTurn (k : ℕ) (b : List ℕ) (u : ℕ) (a : Answer) (b′ : List ℕ) : Type 0 where
-  pub call : ShowCall
-  pub before : now (call .args .0) ≡ b
-  pub at : call .args .1 .0 ≡ u
-  pub number : call .args .1 .1 .0 ≡ k
-  pub told : ShowRefusalCall
-  pub same : SameArguments call told
-  pub after : now (ends call .0) ≡ b′
-  pub says : a ≡ shown (told .result) (now (call .result))
-
-pub record WorstTurn (m : ℕ) (b : List ℕ) (u : ℕ) (a : Answer) (b′ : List ℕ) : Type 0 where
-  pub call : WorstCall
-  pub before : now (call .args .0) ≡ b
-  pub at : call .args .1 .0 ≡ u
-  pub compartment : call .args .1 .1 .0 ≡ m
-  pub after : now (ends call .0) ≡ b′
-  pub says : a ≡ ofHighest (call .result)
-
+-- by the functions of `archive`
 abbrev pub Turn : Request → List ℕ → ℕ → Answer → List ℕ → Type 0
-Turn empty b u a b′ = EmptyTurn b a b′
-Turn (file c f) b u a b′ = FileTurn c f b u a b′
-Turn (show k) b u a b′ = ShowTurn k b u a b′
-Turn (worst m) b u a b′ = WorstTurn m b u a b′
+Turn = TurnBy direct
 
 -- ── a list of requests cs with answers rs, from the buffer b at the used length u to b″ at u″
 
--- what one call is: Turn, or a call of the C interface (Interface)
+-- what one call is: Turn, or CTurn of Interface
 abbrev pub Turns : Type 1
 Turns = Request → List ℕ → ℕ → Answer → List ℕ → Type 0
 
@@ -122,12 +91,9 @@ BySpace size n a =
 
 -- ── that there are such lists
 
--- the figures of a filing are work out's, unless its case is refused
+-- the figures of a filing are work out's, unless what it offers is out of range
 abbrev pub Fed : Request → Type 0
-Fed empty = Unit {0}
-Fed (file c f) = refusalOf c ≡ 0 → f ≡ figuresOf c
-Fed (show k) = Unit {0}
-Fed (worst m) = Unit {0}
+Fed = FedBy (λ c f. f ≡ figuresOf c)
 
 abbrev pub AllFed : List Request → Type 0
 AllFed [] = Unit {0}

@@ -4,55 +4,47 @@ use mathlib.Core.List.{List, [], _∷_, _++_}
 use Prim.Native.Nat.{ℕ, _+_}
 use lib.Dec.{ltb, leb, eqb}
 use lib.ListN.{length, getD}
-use Rattle.scenario.specs.Refusal.{Condition, _when_, firstOf}
+use Rattle.scenario.specs.Refusal.{Condition, _when_}
 use Rattle.scenario.specs.Case.{refusals}
 use Rattle.records.specs.Layout.{Line, noLine, recordOf, trailerSize, usedLength, recordSize}
-use Rattle.archive.specs.Conditions.{accepted, full, notCompartment}
 use Rattle.records.specs.Lines.{held, worstOf}
-use Rattle.archive.specs.Answers.{Answer, emptied, filed, shown, named}
+use Rattle.archive.specs.Conditions.{full, notCompartment}
+use Rattle.archive.specs.Offers.{Offer, lineWith}
+use Rattle.archive.specs.Answers.{start, entry, part, line, Answer, Effect, answerBy, leftBy}
 
--- A call as the ledger is fed it. Whose figures come with a filing is said by `FileTurn`.
+-- A call as the ledger is fed it. Whose figures come with a filing is said by `FedBy` of History.
 pub data Request : Type 0 where
   empty : Request
-  file : (case figures : List ℕ) → Request
+  file : (offered : Offer) (figures : List ℕ) → Request
   show : (number : ℕ) → Request
   worst : (compartment : ℕ) → Request
 
--- ── the refusals, from the lines and the size of the buffer; the used length is that of the lines, so that 21 has no place in the lists
+-- ── what a filing is refused by, from the lines and the size of the buffer; the used length is that of the lines, so that 21 has no place in a list
 
-unfoldable pub judgedEmpty : ℕ → List Condition
-judgedEmpty size = (23 when ltb size trailerSize) ∷ []
+abbrev pub fromLines : ℕ → List Line → Offer → List Condition
+fromLines size ls o = (22 when held ls (o .case)) ∷ (23 when full size (usedLength recordSize (length ls)) (length ls)) ∷ []
 
-abbrev pub fromLines : ℕ → List Line → List ℕ → List Condition
-fromLines size ls c = (22 when held ls c) ∷ (23 when full size (usedLength recordSize (length ls)) (length ls)) ∷ []
-
-unfoldable pub judgedFile : ℕ → List Line → List ℕ → List Condition
-judgedFile size ls c = refusals c ++ fromLines size ls c
-
-unfoldable pub judgedShow : List Line → ℕ → List Condition
-judgedShow ls k = (24 when leb (length ls) k) ∷ []
-
-unfoldable pub judgedWorst : List Line → ℕ → List Condition
-judgedWorst ls m = (12 when notCompartment m) ∷ (24 when eqb (length ls) 0) ∷ []
+unfoldable pub judgedFile : ℕ → List Line → Offer → List Condition
+judgedFile size ls o = refusals (o .case) ++ fromLines size ls o
 
 -- ── the ledger, the paper's term
 
--- its answer to a request, on a buffer of some size
-unfoldable pub answer : ℕ → List Line → Request → Answer
-answer size ls empty = let r = firstOf (judgedEmpty size) in emptied r (accepted r trailerSize 0)
-answer size ls (file c f) =
-    let r = firstOf (judgedFile size ls c) in
+-- its ruling on a request, on a buffer of some size: refusals, places, and lines
+abbrev pub ruling : ℕ → List Line → Request → Effect (List Line)
+ruling size ls empty = record { refusals = (23 when ltb size trailerSize) ∷ []; gives = start trailerSize; leaves = []; beside = start 0 }
+ruling size ls (file o f) =
     let n = length ls in
-    filed r (accepted r n 0) (accepted r (usedLength recordSize (n + 1)) (usedLength recordSize n))
-answer size ls (show k) = let r = firstOf (judgedShow ls k) in shown r (accepted r (recordOf (getD ls k noLine)) [])
-answer size ls (worst m) = let r = firstOf (judgedWorst ls m) in named r (accepted r (worstOf m ls) 0)
+    record { refusals = judgedFile size ls o; gives = entry n (usedLength recordSize (n + 1)); leaves = ls ++ (lineWith o f ∷ []); beside = entry 0 (usedLength recordSize n) }
+ruling size ls (show k) = record { refusals = (24 when leb (length ls) k) ∷ []; gives = part (recordOf (getD ls k noLine)); leaves = ls; beside = part [] }
+ruling size ls (worst m) = record { refusals = (12 when notCompartment m) ∷ (24 when eqb (length ls) 0) ∷ []; gives = line (worstOf m ls); leaves = ls; beside = line 0 }
 
--- its lines after a request
+-- its answer to a request
+unfoldable pub answer : ℕ → List Line → Request → Answer
+answer size ls c = answerBy (ruling size ls c)
+
+-- its lines after a request: moved where it is accepted, and otherwise as they were
 unfoldable pub after : ℕ → List Line → Request → List Line
-after size ls empty = accepted (firstOf (judgedEmpty size)) [] ls
-after size ls (file c f) = accepted (firstOf (judgedFile size ls c)) (ls ++ (record { case = c; figures = f } ∷ [])) ls
-after size ls (show k) = ls
-after size ls (worst m) = ls
+after size ls c = leftBy (ruling size ls c) ls
 
 -- over a list of requests
 unfoldable pub answers : ℕ → List Line → List Request → List Answer

@@ -1,6 +1,7 @@
 -- What a reader of this crate must believe: definitions only. The theorems stand in proofs/: Demand1, Demand3, Interface, SingleCalls, BytesLeft, FreeSpace, ShownFigures, WorkedHistory.
-pub mod Calls
 pub mod Ledger
+pub mod Seen
+pub mod Calls
 pub mod History
 pub mod Interface
 pub mod WorkedHistory

@@ -4,6 +4,7 @@
 use mathlib.Core.List.{List, [], _∷_, _++_}
 use Prim.Native.Nat.{ℕ}
 use Rattle.scenario.specs.Builder.{caseBytes, hundred, unit, half, quarter, eighth, sixty-fourth}
+use Rattle.archive.specs.Offers.{offer}
 use Rattle.archive.specs.Answers.{Answer, emptied, filed, shown, named}
 use Rattle.history.specs.Ledger.{Request, empty, file, show, worst}
 
@@ -46,21 +47,21 @@ workedHistory =
     ∷ (worst 1 tells named 24 0)
     -- no compartment is told before no record
     ∷ (worst 5 tells named 12 0)
-    ∷ (file (sanitary 7 0) (four 76923077 0 0 0) tells filed 0 0 112)
+    ∷ (file (offer (sanitary 7 0)) (four 76923077 0 0 0) tells filed 0 0 112)
     -- P10: another b is the same filing
-    ∷ (file (sanitary 7 unit) (four 0 0 0 0) tells filed 22 0 112)
+    ∷ (file (offer (sanitary 7 unit)) (four 0 0 0 0) tells filed 22 0 112)
     -- a dossier number of 2 ^ 32 more is another filing
-    ∷ (file (sanitary 4294967303 0) (four 76923077 0 0 0) tells filed 0 1 208)
-    ∷ (file (sanitary 0 0) (four 0 0 0 0) tells filed 7 0 208)
-    ∷ (file (formulation 250 7 quarter eighth) (four 31250000 0 15625000 7812500) tells filed 0 2 304)
+    ∷ (file (offer (sanitary 4294967303 0)) (four 76923077 0 0 0) tells filed 0 1 208)
+    ∷ (file (offer (sanitary 0 0)) (four 0 0 0 0) tells filed 7 0 208)
+    ∷ (file (offer (formulation 250 7 quarter eighth)) (four 31250000 0 15625000 7812500) tells filed 0 2 304)
     -- another T is the same filing
-    ∷ (file (formulation 125 7 quarter eighth) (four 62500000 0 31250000 15625000) tells filed 22 0 304)
-    ∷ (file (formulation 250 8 eighth quarter) (four 31250000 0 7812500 15625000) tells filed 0 3 400)
-    ∷ (file rain (four 0 1498287672 0 0) tells filed 0 4 496)
+    ∷ (file (offer (formulation 125 7 quarter eighth)) (four 62500000 0 31250000 15625000) tells filed 22 0 304)
+    ∷ (file (offer (formulation 250 8 eighth quarter)) (four 31250000 0 7812500 15625000) tells filed 0 3 400)
+    ∷ (file (offer rain) (four 0 1498287672 0 0) tells filed 0 4 496)
     -- full; what is held is told before that, and what is out of range before both
-    ∷ (file (sanitary 9 0) (four 76923077 0 0 0) tells filed 23 0 496)
-    ∷ (file (sanitary 7 0) (four 76923077 0 0 0) tells filed 22 0 496)
-    ∷ (file (sanitary 0 0) (four 0 0 0 0) tells filed 7 0 496)
+    ∷ (file (offer (sanitary 9 0)) (four 76923077 0 0 0) tells filed 23 0 496)
+    ∷ (file (offer (sanitary 7 0)) (four 76923077 0 0 0) tells filed 22 0 496)
+    ∷ (file (offer (sanitary 0 0)) (four 0 0 0 0) tells filed 7 0 496)
     ∷ (show 0 tells shown 0 (recordWith 7))
     ∷ (show 5 tells shown 24 [])
     -- STP: the first of two equals; each compartment names another record
@@ -72,8 +73,8 @@ workedHistory =
     ∷ (worst 5 tells named 12 0)
     ∷ (empty tells emptied 0 16)
     ∷ (show 0 tells shown 24 [])
-    ∷ (file (sanitary 7 0) (four 76923077 0 0 0) tells filed 0 0 112)
-    ∷ (file (sanitary 9 0) (four 76923077 0 0 0) tells filed 0 1 208)
+    ∷ (file (offer (sanitary 7 0)) (four 76923077 0 0 0) tells filed 0 0 112)
+    ∷ (file (offer (sanitary 9 0)) (four 76923077 0 0 0) tells filed 0 1 208)
     -- another record than the first
     ∷ (show 1 tells shown 0 (recordWith 9))
     ∷ (show 2 tells shown 24 [])

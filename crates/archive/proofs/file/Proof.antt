@@ -2,7 +2,6 @@
 use mathlib.Core.Path.{sym, _∙_}
 use native.Mathlib.Omega.{arith}
 use borrow.Author.Needs.{needs}
-use Rattle.archive.specs.Archive.{fileBytes}
 use Rattle.archive.proofs.Cases.{case-size}
 use Rattle.archive.proofs.Accepted.{free-facts, file-refused, file-accepted}
 use Rattle.archive.proofs.file.Statement.{statement}
@@ -12,15 +11,11 @@ returns : tie.Need-returns
 returns c = file-refused _ _ _ _ (c .before .file-refusal .ensures) (c .if1 .taken)
 
 returns-2 : tie.Need-returns-2
-unfolding fileBytes
 returns-2 c =
     let p = c .before .before in
     let n = p .before .before in
     let i = n .before .before .before in
-    let w = i .before .before .before in
-    let e = sym (i .before .file-refusal .ensures) ∙ i .if1 .left in
-    let a = file-accepted _ _ _ e (n .count-at .ensures) in
-    (a .0, rw e (cc (n .count-at .ensures, w .work-out .ensures .1, p .put-line .ensures)), a .1)
+    file-accepted _ _ _ (sym (i .before .file-refusal .ensures) ∙ i .if1 .left) (n .count-at .ensures) (i .before .before .before .work-out .ensures .1) (p .put-line .ensures)
 
 pub file-spec : {M : Type 1} → statement M
 file-spec =
@@ -36,7 +31,7 @@ file-spec =
     let i = n .before .before .before in
     let h = free-facts _ _ _ (sym (i .before .file-refusal .ensures) ∙ i .if1 .left) in
     let e = n .count-at .ensures in
-    (case-size _ (h .within-ranges), omega (arith, h .sound .length-is, h .room), omega (arith, h .fewer)))
+    (case-size _ (h .within .case-within), omega (arith, h .sound .length-is, h .room), omega (arith, h .fewer)))
     (λ c.
     let i = c .before .before .before .before .before .before .before in
     let h = free-facts _ _ _ (sym (i .before .file-refusal .ensures) ∙ i .if1 .left) in

@@ -4,7 +4,7 @@ use Prim.Native.Nat.{_+_, _*_, _-_}
 use native.Mathlib.Omega.{arith}
 use borrow.Author.Needs.{needs}
 use Rattle.archive.specs.Archive.{showPart}
-use Rattle.archive.proofs.Refusals.{accepted-refused}
+use Rattle.archive.proofs.AnswerLaws.{accepted-refused}
 use Rattle.archive.proofs.Accepted.{shown-facts}
 use Rattle.archive.proofs.show.Statement.{statement}
 use Rattle.archive.proofs.show.Tie as tie

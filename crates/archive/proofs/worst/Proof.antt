@@ -6,8 +6,8 @@ use borrow.Author.Needs.{needs}
 use borrow.Author.Tests.{eq-eqb, ne-eqb}
 use Rattle.records.specs.Layout.{firstLines, recordSize}
 use Rattle.records.specs.Lines.{worstOf}
+use Rattle.archive.specs.Answers.{named}
 use Rattle.archive.specs.Archive.{worstRefusals, naming}
-use Rattle.archive.specs.Answers.{named, worstAnswer}
 use Rattle.archive.specs.declared.Highest.the-variants.{Number}
 use Rattle.archive.proofs.Refusals.{compartment-within}
 use Rattle.records.proofs.Trailer.{sound-facts}
@@ -15,21 +15,21 @@ use Rattle.archive.proofs.worst.Statement.{statement}
 use Rattle.archive.proofs.worst.Tie as tie
 
 returns : tie.Need-returns
-unfolding worstRefusals naming worstAnswer
+unfolding worstRefusals naming
 returns c = rw (c .if1 .taken) (refl, refl)
 
 returns-2 : tie.Need-returns-2
-unfolding worstRefusals naming worstAnswer
+unfolding worstRefusals naming
 returns-2 c = rw (c .before .before .if1 .left, sym (c .before .is-broken .ensures) ∙ c .if2 .taken) (refl, refl)
 
 returns-3 : tie.Need-returns-3
-unfolding worstRefusals naming worstAnswer
+unfolding worstRefusals naming
 returns-3 c =
     let s = c .before .before in
     rw (s .before .before .if1 .left, sym (s .before .is-broken .ensures) ∙ s .if2 .left, eq-eqb _ _ (sym (c .before .count-at .ensures) ∙ c .if3 .taken)) (refl, refl)
 
 returns-4 : tie.Need-returns-4
-unfolding worstRefusals naming worstAnswer
+unfolding worstRefusals naming
 returns-4 c =
     let n = c .before .before in
     let s = n .before in

@@ -3,7 +3,7 @@ use mathlib.Core.Path.{refl, sym, _∙_}
 use native.Mathlib.Omega.{arith}
 use borrow.Author.Needs.{needs}
 use Rattle.archive.specs.Archive.{showPart}
-use Rattle.archive.proofs.Refusals.{accepted-refused}
+use Rattle.archive.proofs.AnswerLaws.{accepted-refused}
 use Rattle.archive.proofs.Accepted.{shown-facts}
 use Rattle.csorvelin.specs.Place.{startShown, lengthShown}
 use Rattle.csorvelin.proofs.csorvelin_show.Statement.{statement}
