@@ -2,7 +2,7 @@
 -- Paper 01, 'Pencil cases': "Edges: life 30 is 6, 31 passes; row 2 route 2 is 4, row 3 route 2 passes", and P8, P9.
 use mathlib.Core.List.{List, [], _∷_}
 use Prim.Native.Nat.{ℕ, _+_}
-use Rattle.scenario.specs.Builder.{caseBytes, million, sixteen, unit, three-quarters, half, quarter, eighth, two^-52, two^-53, two^-54}
+use Rattle.scenario.specs.Builder.{caseBytes, million, ten-thousand, five-thousand, thousand, hundred, sixteen, five, unit, three-quarters, half, quarter, eighth, two^-52, two^-53, two^-54}
 
 pub record Edge : Type 0 where
   pub case : List ℕ
