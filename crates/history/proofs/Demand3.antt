@@ -8,7 +8,7 @@ use Rattle.records.specs.Layout.{Line}
 use Rattle.archive.specs.Answers.{Answer}
 use Rattle.history.specs.Ledger.{Request, empty, after, answers, lines}
 use Rattle.history.specs.Seen.{Way}
-use Rattle.history.specs.History.{TurnBy, RunBy, done, next, BeginsEmpty, begins, HistoryBy, History, After}
+use Rattle.history.specs.History.{RunBy, done, next, BeginsEmpty, begins, HistoryBy, History, After}
 use Rattle.history.proofs.Lawful.{Lawful, direct-lawful}
 use Rattle.history.proofs.Turns.{Stands, kept, first-stands}
 
@@ -22,7 +22,7 @@ pub record Followed (size : ℕ) (ls : List Line) (cs : List Request) (rs : List
 -- by any lawful way of calling
 module _ {W : Way} (l : Lawful W) where
   followed : {size : ℕ} {b : List ℕ} {u : ℕ} {ls : List Line} {cs : List Request} {rs : List Answer} {b″ : List ℕ} {u″ : ℕ}
-      → Stands size b u ls → RunBy (TurnBy W) b u cs rs b″ u″ → Followed size ls cs rs b″ u″
+      → Stands size b u ls → RunBy W b u cs rs b″ u″ → Followed size ls cs rs b″ u″
   unfolding answers lines
   followed s done = record { answered = refl; stands = s }
   followed s (next {c = c} t h) =
@@ -31,7 +31,7 @@ module _ {W : Way} (l : Lawful W) where
       record { answered = λ i. k .answered i ∷ f .answered i; stands = f .stands }
 
   begun-followed : {b : List ℕ} {u : ℕ} {cs : List Request} {rs : List Answer} {b″ : List ℕ} {u″ : ℕ}
-      → BeginsEmpty cs rs → RunBy (TurnBy W) b u cs rs b″ u″ → Followed (length b) [] cs rs b″ u″
+      → BeginsEmpty cs rs → RunBy W b u cs rs b″ u″ → Followed (length b) [] cs rs b″ u″
   unfolding answers lines
   begun-followed {b} (begins {cs = cs} {rs = rs}) (next t h) =
       let z = first-stands l t in
@@ -39,10 +39,10 @@ module _ {W : Way} (l : Lawful W) where
       let q : rs ≡ answers (length b) (after (length b) [] empty) cs = rw (z .1) (f .answered) in
       record { answered = λ i. z .0 i ∷ q i; stands = rw (z .1) (f .stands) }
 
-  pub history-followed : {b : List ℕ} {cs : List Request} {rs : List Answer} {b″ : List ℕ} {u″ : ℕ} → HistoryBy (TurnBy W) b cs rs b″ u″ → Followed (length b) [] cs rs b″ u″
+  pub history-followed : {b : List ℕ} {cs : List Request} {rs : List Answer} {b″ : List ℕ} {u″ : ℕ} → HistoryBy W b cs rs b″ u″ → Followed (length b) [] cs rs b″ u″
   history-followed h = begun-followed (h .begun) (h .run)
 
-  pub way-demand3 : {b : List ℕ} {cs : List Request} {rs : List Answer} {b″ : List ℕ} {u″ : ℕ} → HistoryBy (TurnBy W) b cs rs b″ u″ → After (length b) cs rs b″ u″
+  pub way-demand3 : {b : List ℕ} {cs : List Request} {rs : List Answer} {b″ : List ℕ} {u″ : ℕ} → HistoryBy W b cs rs b″ u″ → After (length b) cs rs b″ u″
   way-demand3 h =
       let f = history-followed h in
       record {

@@ -81,7 +81,7 @@ module _ {W : Way} (l : Lawful W) where
       )
 
   pub filed-exactly : {b : List ℕ} {cs : List Request} {rs : List Answer} {b″ : List ℕ} {u″ : ℕ} {o : Offer} {f : List ℕ} {a : Answer} {b‴ : List ℕ}
-      → HistoryBy (TurnBy W) b cs rs b″ u″ → TurnBy W (file o f) b″ u″ a b‴ → Within o → (IsHeld (lines (length b) [] cs) (o .case) → ⊥)
+      → HistoryBy W b cs rs b″ u″ → TurnBy W (file o f) b″ u″ a b‴ → Within o → (IsHeld (lines (length b) [] cs) (o .case) → ⊥)
       → BySpace (length b) (length (lines (length b) [] cs)) a
   filed-exactly h t e n = after-lines (history-followed l h .stands) t e n
 
@@ -92,7 +92,7 @@ module _ {W : Way} (l : Lawful W) where
   emptied-16 {b} t h = turn-does l t .answer-is ∙ rw (le-ltb (length b) 16 h)
 
   pub first-filing : {b : List ℕ} {u : ℕ} {o : Offer} {f : List ℕ} {cs : List Request} {a₀ a₁ : Answer} {rs : List Answer} {b″ : List ℕ} {u″ : ℕ}
-      → RunBy (TurnBy W) b u (empty ∷ file o f ∷ cs) (a₀ ∷ a₁ ∷ rs) b″ u″ → 112 ≤ length b → Within o → (a₀ ≡ emptied 0 16) × (a₁ ≡ filed 0 0 112)
+      → RunBy W b u (empty ∷ file o f ∷ cs) (a₀ ∷ a₁ ∷ rs) b″ u″ → 112 ≤ length b → Within o → (a₀ ≡ emptied 0 16) × (a₁ ≡ filed 0 0 112)
   first-filing (next t (next k r)) h e =
       let z = emptied-16 t (omega arith) in
       let s = first-stands l (rw z at t) in

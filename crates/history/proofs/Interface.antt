@@ -36,5 +36,5 @@ c-turn {c} {b} {u} t =
 
 -- ── the theorem
 
-pub c-demand3 : {b : List ℕ} {cs : List Request} {rs : List Answer} {b″ : List ℕ} {u″ : ℕ} → HistoryBy CTurn b cs rs b″ u″ → After (length b) cs rs b″ u″
+pub c-demand3 : {b : List ℕ} {cs : List Request} {rs : List Answer} {b″ : List ℕ} {u″ : ℕ} → HistoryBy fromC b cs rs b″ u″ → After (length b) cs rs b″ u″
 c-demand3 h = way-demand3 c-lawful h

@@ -26,7 +26,7 @@ use Rattle.csorvelin.proofs.csorvelin_worst.Met as worst-met
 use Rattle.csorvelin.proofs.csorvelin_worst.Statement as worst-statement
 use Rattle.history.specs.Ledger.{Request, empty, file, show, worst}
 use Rattle.history.specs.History.{FedBy, TurnBy, AllFed, HistoryOf}
-use Rattle.history.specs.Interface.{empties, files, shows, names, CWorkedOut, fromC, CTurn}
+use Rattle.history.specs.Interface.{empties, files, shows, names, CWorkedOut, fromC}
 use Rattle.history.proofs.Possible.{told, left, made, Can, history-by, lent}
 use Rattle.history.proofs.Interface.{c-lawful}
 
@@ -84,7 +84,7 @@ module _ (κ : Lft) where
     };
   }
 
-  pub c-history-can : (cs : List Request) → AllFed cs → (b : List ℕ) → 16 ≤ length b → HistoryOf CTurn b cs
+  pub c-history-can : (cs : List Request) → AllFed cs → (b : List ℕ) → 16 ≤ length b → HistoryOf fromC b cs
   c-history-can = history-by c-can
 
 -- ── the functions meet the contracts that a call goes by

@@ -13,7 +13,7 @@ use Rattle.archive.specs.Archive.{emptyRefusals, emptyRefusal}
 use Rattle.history.specs.Ledger.{Request, empty, file, show, worst, after}
 use Rattle.history.specs.Seen.{effect}
 use Rattle.history.specs.History.{RunBy, done, next, BeginsEmpty, begins, HistoryBy}
-use Rattle.history.specs.Interface.{CCall, empties, files, shows, names, cSeen, CTurn, holdsThen, OneVariable, none, more}
+use Rattle.history.specs.Interface.{CCall, empties, files, shows, names, cSeen, fromC, CTurn, holdsThen, OneVariable, none, more}
 use Rattle.history.proofs.Lawful.{turn-does}
 use Rattle.history.proofs.Turns.{Stands, kept, first-stands}
 use Rattle.history.proofs.Interface.{c-lawful}
@@ -54,37 +54,37 @@ none-refused {c} {b} {u} t h q =
     (λ i. turn-does c-lawful t .answer-is i .refusal) ∙ ap (λ (x : Request). refusalBy (effect x b u)) q ∙ z
 
 one-variable-run : {size : ℕ} {b : List ℕ} {u : ℕ} {ls : List Line} {cs : List Request} {rs : List Answer} {b″ : List ℕ} {u″ : ℕ}
-    → 16 ≤ size → Stands size b u ls → OneVariable b u cs rs b″ u″ → RunBy CTurn b u cs rs b″ u″
+    → 16 ≤ size → Stands size b u ls → OneVariable b u cs rs b″ u″ → RunBy fromC b u cs rs b″ u″
 one-variable-run h s none = done
 one-variable-run {size} {ls = ls} h s (more {b = b} {u = u} {c = c} {a = a} {b′ = b′} {cs = cs} {rs = rs} {b″ = b″} {u″ = u″} t r) =
     let e = c-handed t (none-refused t (rw (s .size-is) h)) in
     let k = subst (λ (v : ℕ). Stands size b′ v (after size ls c)) e (kept c-lawful c s t .stands) in
-    next {c = c} t (subst (λ (v : ℕ). RunBy CTurn b′ v cs rs b″ u″) (sym e) (one-variable-run h k r))
+    next {c = c} t (subst (λ (v : ℕ). RunBy fromC b′ v cs rs b″ u″) (sym e) (one-variable-run h k r))
 
 pub c-one-variable : {b : List ℕ} {u : ℕ} {cs : List Request} {rs : List Answer} {b″ : List ℕ} {u″ : ℕ}
-    → BeginsEmpty cs rs → OneVariable b u cs rs b″ u″ → HistoryBy CTurn b cs rs b″ u″
+    → BeginsEmpty cs rs → OneVariable b u cs rs b″ u″ → HistoryBy fromC b cs rs b″ u″
 c-one-variable {b} {u} (begins {v = v}) (more {b′ = b′} {cs = cs} {rs = rs} {b″ = b″} {u″ = u″} t r) =
     let s = first-stands c-lawful t .2 in
     let h : 16 ≤ length b = omega (arith, s .holds .length-is, s .holds .inside, s .size-is) in
     let e : v ≡ holdsThen (t .call) u = c-handed t (λ q. refl) in
     let k = subst (λ (w : ℕ). Stands (length b) b′ w []) e s in
-    record { given = u; run = next t (subst (λ (w : ℕ). RunBy CTurn b′ w cs rs b″ u″) (sym e) (one-variable-run h k r)); begun = begins }
+    record { given = u; run = next t (subst (λ (w : ℕ). RunBy fromC b′ w cs rs b″ u″) (sym e) (one-variable-run h k r)); begun = begins }
 
 -- and each history is one: what is handed on is what the variable holds
 run-one-variable : {size : ℕ} {b : List ℕ} {u : ℕ} {ls : List Line} {cs : List Request} {rs : List Answer} {b″ : List ℕ} {u″ : ℕ}
-    → 16 ≤ size → Stands size b u ls → RunBy CTurn b u cs rs b″ u″ → OneVariable b u cs rs b″ u″
+    → 16 ≤ size → Stands size b u ls → RunBy fromC b u cs rs b″ u″ → OneVariable b u cs rs b″ u″
 run-one-variable h s done = none
 run-one-variable h s (next {b = b} {u = u} {c = c} {a = a} {b′ = b′} {cs = cs} {rs = rs} {b″ = b″} {u″ = u″} t r) =
     let e = c-handed t (none-refused t (rw (s .size-is) h)) in
     more {c = c} t (subst (λ (v : ℕ). OneVariable b′ v cs rs b″ u″) e (run-one-variable h (kept c-lawful c s t .stands) r))
 
 begun-one-variable : {b : List ℕ} {u : ℕ} {cs : List Request} {rs : List Answer} {b″ : List ℕ} {u″ : ℕ}
-    → BeginsEmpty cs rs → RunBy CTurn b u cs rs b″ u″ → OneVariable b u cs rs b″ u″
+    → BeginsEmpty cs rs → RunBy fromC b u cs rs b″ u″ → OneVariable b u cs rs b″ u″
 begun-one-variable {b} {u} (begins {v = v}) (next {b′ = b′} {cs = cs} {rs = rs} {b″ = b″} {u″ = u″} t r) =
     let s = first-stands c-lawful t .2 in
     let h : 16 ≤ length b = omega (arith, s .holds .length-is, s .holds .inside, s .size-is) in
     let e : v ≡ holdsThen (t .call) u = c-handed t (λ q. refl) in
     more t (subst (λ (w : ℕ). OneVariable b′ w cs rs b″ u″) e (run-one-variable h s r))
 
-pub c-in-one-variable : {b : List ℕ} {cs : List Request} {rs : List Answer} {b″ : List ℕ} {u″ : ℕ} (h : HistoryBy CTurn b cs rs b″ u″) → OneVariable b (h .given) cs rs b″ u″
+pub c-in-one-variable : {b : List ℕ} {cs : List Request} {rs : List Answer} {b″ : List ℕ} {u″ : ℕ} (h : HistoryBy fromC b cs rs b″ u″) → OneVariable b (h .given) cs rs b″ u″
 c-in-one-variable h = begun-one-variable (h .begun) (h .run)

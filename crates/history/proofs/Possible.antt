@@ -15,7 +15,7 @@ use Rattle.archive.proofs.AnswerLaws.{of-emptying, of-filing, of-naming}
 use Rattle.history.specs.Ledger.{Request, empty, file, show, worst}
 use Rattle.history.specs.Seen.{effect, seeing, Way}
 use Rattle.history.specs.Calls.{empties, files, shows, names, WorkedOut, direct}
-use Rattle.history.specs.History.{FedBy, TurnBy, Turn, done, next, begins, AllFed, RunOf, HistoryOf}
+use Rattle.history.specs.History.{FedBy, TurnBy, done, next, begins, AllFed, RunOf, HistoryOf}
 use Rattle.history.proofs.Lawful.{Lawful, fed-map, turn-does, direct-lawful}
 
 -- ── lists of calls from single ones
@@ -41,7 +41,7 @@ pub record Can (W : Way) : Type 0 where
   pub work-out : (c f : List ℕ) → f ≡ figuresOf c → W .WorkedOut c f
 
 module _ {W : Way} (can : Can W) where
-  pub run-by : (cs : List Request) → AllFed cs → (b : List ℕ) (u : ℕ) → RunOf (TurnBy W) b u cs
+  pub run-by : (cs : List Request) → AllFed cs → (b : List ℕ) (u : ℕ) → RunOf W b u cs
   run-by [] d b u = record { answers = []; bytes = b; used = u; run = done }
   run-by (c ∷ cs) d b u =
       let t = can .turn c (fed-map (can .work-out) c (d .0)) b u in
@@ -49,7 +49,7 @@ module _ {W : Way} (can : Can W) where
       record { answers = told c b u ∷ r .answers; bytes = r .bytes; used = r .used; run = next t (r .run) }
 
   -- behind an empty that is accepted
-  pub history-by : (cs : List Request) → AllFed cs → (b : List ℕ) → 16 ≤ length b → HistoryOf (TurnBy W) b cs
+  pub history-by : (cs : List Request) → AllFed cs → (b : List ℕ) → 16 ≤ length b → HistoryOf W b cs
   unfolding emptyRefusals
   history-by cs d b h =
       let r = run-by cs d (left empty b 0) 16 in
@@ -89,8 +89,8 @@ module _ (κ : Lft) where
     };
   }
 
-  pub run-can : (cs : List Request) → AllFed cs → (b : List ℕ) (u : ℕ) → RunOf Turn b u cs
+  pub run-can : (cs : List Request) → AllFed cs → (b : List ℕ) (u : ℕ) → RunOf direct b u cs
   run-can = run-by direct-can
 
-  pub history-can : (cs : List Request) → AllFed cs → (b : List ℕ) → 16 ≤ length b → HistoryOf Turn b cs
+  pub history-can : (cs : List Request) → AllFed cs → (b : List ℕ) → 16 ≤ length b → HistoryOf direct b cs
   history-can = history-by direct-can

@@ -15,13 +15,15 @@ use Rattle.history.specs.Calls.{WorkedOut, direct}
 
 -- ── one call, on the buffer b at the used length u, with its answer a and the buffer b′ as it leaves it
 
--- The figures f are free where what is offered is out of range: the ledger is fed none then.
+-- Where G c f says that work out, called on the case c, gave the figures f: those that the ledger is fed with a filing are so given.
+-- They are free where what is offered is out of range: the ledger is fed none then.
 abbrev pub FedBy : (List ℕ → List ℕ → Type 0) → Request → Type 0
-FedBy W empty = Unit {0}
-FedBy W (file o f) = Within o → W (o .case) f
-FedBy W (show k) = Unit {0}
-FedBy W (worst m) = Unit {0}
+FedBy G empty = Unit {0}
+FedBy G (file o f) = Within o → G (o .case) f
+FedBy G (show k) = Unit {0}
+FedBy G (worst m) = Unit {0}
 
+-- a call by the way W that is seen so, and the figures from a call of work out by that way
 pub record TurnBy (W : Way) (c : Request) (b : List ℕ) (u : ℕ) (a : Answer) (b′ : List ℕ) : Type 0 where
   pub call : W .Call
   pub figures : List ℕ
@@ -34,31 +36,24 @@ Turn = TurnBy direct
 
 -- ── a list of requests cs with answers rs, from the buffer b at the used length u to b″ at u″
 
--- what one call is: Turn, or CTurn of Interface
-abbrev pub Turns : Type 1
-Turns = Request → List ℕ → ℕ → Answer → List ℕ → Type 0
-
 -- Buffer and used length go from each call to the next: b′ as it is left, and u replaced where an empty or a filing was accepted.
-pub data RunBy (T : Turns) : List ℕ → ℕ → List Request → List Answer → List ℕ → ℕ → Type 0 where
-  done : {b : List ℕ} {u : ℕ} → RunBy T b u [] [] b u
+pub data RunBy (W : Way) : List ℕ → ℕ → List Request → List Answer → List ℕ → ℕ → Type 0 where
+  done : {b : List ℕ} {u : ℕ} → RunBy W b u [] [] b u
   next : {b : List ℕ} {u : ℕ} {c : Request} {a : Answer} {b′ : List ℕ} {cs : List Request} {rs : List Answer} {b″ : List ℕ} {u″ : ℕ}
-      → T c b u a b′ → RunBy T b′ (handed a u) cs rs b″ u″ → RunBy T b u (c ∷ cs) (a ∷ rs) b″ u″
+      → TurnBy W c b u a b′ → RunBy W b′ (handed a u) cs rs b″ u″ → RunBy W b u (c ∷ cs) (a ∷ rs) b″ u″
 
 -- the first call is an accepted empty
 pub data BeginsEmpty : List Request → List Answer → Type 0 where
   begins : {v : ℕ} {cs : List Request} {rs : List Answer} → BeginsEmpty (empty ∷ cs) (emptied 0 v ∷ rs)
 
 -- A history, the paper's term, on a buffer of any content; the used length that stood there before is no argument of empty.
-pub record HistoryBy (T : Turns) (b : List ℕ) (cs : List Request) (rs : List Answer) (b″ : List ℕ) (u″ : ℕ) : Type 0 where
+pub record HistoryBy (W : Way) (b : List ℕ) (cs : List Request) (rs : List Answer) (b″ : List ℕ) (u″ : ℕ) : Type 0 where
   pub given : ℕ
-  pub run : RunBy T b given cs rs b″ u″
+  pub run : RunBy W b given cs rs b″ u″
   pub begun : BeginsEmpty cs rs
 
-abbrev pub Run : List ℕ → ℕ → List Request → List Answer → List ℕ → ℕ → Type 0
-Run = RunBy Turn
-
 abbrev pub History : List ℕ → List Request → List Answer → List ℕ → ℕ → Type 0
-History = HistoryBy Turn
+History = HistoryBy direct
 
 -- ── what holds after a history on a buffer of some size
 
@@ -100,14 +95,14 @@ AllFed [] = Unit {0}
 AllFed (c ∷ cs) = Fed c × AllFed cs
 
 -- some answers, buffer and used length of a run of cs; and of a history in which an empty that answers 16 comes before cs
-pub record RunOf (T : Turns) (b : List ℕ) (u : ℕ) (cs : List Request) : Type 0 where
+pub record RunOf (W : Way) (b : List ℕ) (u : ℕ) (cs : List Request) : Type 0 where
   pub answers : List Answer
   pub bytes : List ℕ
   pub used : ℕ
-  pub run : RunBy T b u cs answers bytes used
+  pub run : RunBy W b u cs answers bytes used
 
-pub record HistoryOf (T : Turns) (b : List ℕ) (cs : List Request) : Type 0 where
+pub record HistoryOf (W : Way) (b : List ℕ) (cs : List Request) : Type 0 where
   pub answers : List Answer
   pub bytes : List ℕ
   pub used : ℕ
-  pub history : HistoryBy T b (empty ∷ cs) (emptied 0 16 ∷ answers) bytes used
+  pub history : HistoryBy W b (empty ∷ cs) (emptied 0 16 ∷ answers) bytes used

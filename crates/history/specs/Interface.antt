@@ -72,7 +72,7 @@ holdsThen (files k) u = now (ends k .1 .0)
 holdsThen (shows k) u = u
 holdsThen (names k) u = u
 
--- As RunBy CTurn, but the next call is given what the variable holds, refused or not.
+-- As RunBy fromC, but the next call is given what the variable holds, refused or not.
 pub data OneVariable : List ℕ → ℕ → List Request → List Answer → List ℕ → ℕ → Type 0 where
   none : {b : List ℕ} {u : ℕ} → OneVariable b u [] [] b u
   more : {b : List ℕ} {u : ℕ} {c : Request} {a : Answer} {b′ : List ℕ} {cs : List Request} {rs : List Answer} {b″ : List ℕ} {u″ : ℕ}
