@@ -1,5 +1,5 @@
 -- The search for the worst of n records, each as long as the width w, in a buffer b.
--- The figure of record k: `figure-at`. The search from the first record to the last: `Scanned`, `scan-start`, `scan-pass`, `scan-over`, `scan-end`.
+-- The figure of record k: `figure-at`. The search from the first record to the last: `Scanned`, `scan-start`, `Looked`, `scan-next`, `scan-end`.
 use mathlib.Core.Path.{_≡_, refl, ap, _∙_}
 use mathlib.Core.List.{List}
 use Prim.Native.Nat.{ℕ, zero, suc, _+_, _*_, _-_, _≤_, _<_}
@@ -41,15 +41,19 @@ pub record Scanned (f : ℕ → ℕ) (k best top : ℕ) : Type 0 where
   pub top-is : top ≡ f best
   pub worst : Worst (outranks f) k best
 
+-- what is known of those up to k, whose figure is x: k is passed over, or it takes over
+abbrev pub Looked : (f : ℕ → ℕ) (k best top x : ℕ) → Type 0
+Looked f k best top x = (x ≤ top → Scanned f (k + 1) best top) × (top < x → Scanned f (k + 1) k x)
+
 module _ (f : ℕ → ℕ) where
   pub scan-start : {top : ℕ} → top ≡ f 0 → Scanned f 1 0 top
   scan-start e = record { top-is = e; worst = worst-first (by-figures f) }
 
-  pub scan-pass : {k best top x : ℕ} → Scanned f k best top → x ≡ f k → x ≤ top → Scanned f (k + 1) best top
-  scan-pass {k} {best} s e h = record { top-is = s .top-is; worst = worst-pass (s .worst) (le-ltb (f best) (f k) (rw (← e, ← s .top-is) h)) }
-
-  pub scan-over : {k best top x : ℕ} → Scanned f k best top → x ≡ f k → top < x → Scanned f (k + 1) k x
-  scan-over {k} {best} s e h = record { top-is = e; worst = worst-over (by-figures f) (s .worst) (lt-ltb (f best) (f k) (rw (← e, ← s .top-is) h)) }
+  pub scan-next : {k best top x : ℕ} → Scanned f k best top → x ≡ f k → Looked f k best top x
+  scan-next {k} {best} s e = (
+    λ h. record { top-is = s .top-is; worst = worst-pass (s .worst) (le-ltb (f best) (f k) (rw (← e, ← s .top-is) h)) },
+    λ h. record { top-is = e; worst = worst-over (by-figures f) (s .worst) (lt-ltb (f best) (f k) (rw (← e, ← s .top-is) h)) },
+  )
 
 pub scan-end : (w n m : ℕ) (b : List ℕ) {best top : ℕ} → Scanned (figureOf m (firstLines w n b)) n best top → best ≡ worstOf m (firstLines w n b)
 unfolding worstOf

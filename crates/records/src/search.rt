@@ -37,9 +37,9 @@ pub fn worst_of(archive: &[u8], width: usize, n: usize, compartment: usize) -> u
     let place = 56 + 8 * compartment;
     let mut best: usize = 0;
     let mut top = u64_at(archive, place);
-    let mut k: usize = 1;
-    while k < n {
-        let mut x = u64_at(archive, width * k + place);
+    let mut k: usize = 0;
+    let mut x = top;
+    loop {
         while x <= top {
             k += 1;
             if k == n {
@@ -49,7 +49,5 @@ pub fn worst_of(archive: &[u8], width: usize, n: usize, compartment: usize) -> u
         }
         best = k;
         top = x;
-        k += 1;
     }
-    best
 }
