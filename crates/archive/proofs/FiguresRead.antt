@@ -1,6 +1,6 @@
 -- What `figures_of` tells of bytes, in plain numbers: 96 of them are a record, with the numbers at 64, 72, 80 and 88 as its figures (`a-record`), any other number of
 -- them is none, with zeros (`no-record`). Of what show lends: the figures of the record of that number, and none beside a refusal (`shown-record`, `shown-no-record`).
-use mathlib.Core.Path.{_≡_, refl, ap, _∙_}
+use mathlib.Core.Path.{_≡_, refl, _∙_}
 use mathlib.Core.Bool.{true, false}
 use mathlib.Core.List.{List, [], _∷_}
 use Prim.Native.Nat.{ℕ, _+_, _*_, _≤_}
@@ -8,9 +8,9 @@ use native.Mathlib.Omega.{arith}
 use borrow.Author.Tests.{eq-eqb, ne-eqb}
 use lib.ListN.{length, drop, length-drop}
 use lib.Seq.{length-take-le}
-use Rattle.binary64.specs.Bytes.{numberOf, numberAt}
+use Rattle.binary64.specs.Bytes.{numberAt}
 use Rattle.records.specs.Layout.{bytesAt}
-use Rattle.records.proofs.RecordLaws.{line-figures, part-take, part-drop}
+use Rattle.records.proofs.RecordLaws.{line-figures, number-part}
 use Rattle.archive.specs.Archive.{showRefusal, showPart, isRecord, recordFigures}
 use Rattle.archive.proofs.AnswerLaws.{accepted-refused}
 use Rattle.archive.proofs.Accepted.{shown-facts}
@@ -29,11 +29,6 @@ no-record r h = rw ne-eqb (refl, refl)
 
 -- ── of what show lends
 
--- a number in a record is that number in the archive
-in-archive : (b : List ℕ) (at o : ℕ) → o + 8 ≤ 96 → numberAt (bytesAt b at 96) o 8 ≡ numberAt b (at + o) 8
-unfolding numberAt
-in-archive b at o h = ap numberOf (part-take (drop at b) o 8 96 h ∙ part-drop b o 8 at)
-
 pub shown-record : (b : List ℕ) (u k : ℕ) → showRefusal b u k ≡ 0 → (isRecord (showPart b u k) ≡ true) × (recordFigures (showPart b u k) ≡ fourAt b (96 * k))
 unfolding showPart
 shown-record b u k e =
@@ -41,7 +36,7 @@ shown-record b u k e =
     let i = shown-facts b u k e .inside in
     let l : length r ≡ 96 = length-take-le 96 (drop (96 * k) b) (rw length-drop (omega arith)) in
     let p = a-record r l in
-    rw e (p .0, p .1 ∙ λ j. in-archive b (96 * k) 64 (omega arith) j ∷ in-archive b (96 * k) 72 (omega arith) j ∷ in-archive b (96 * k) 80 (omega arith) j ∷ in-archive b (96 * k) 88 (omega arith) j ∷ [])
+    rw e (p .0, p .1 ∙ λ j. number-part b (96 * k) 96 64 8 (omega arith) j ∷ number-part b (96 * k) 96 72 8 (omega arith) j ∷ number-part b (96 * k) 96 80 8 (omega arith) j ∷ number-part b (96 * k) 96 88 8 (omega arith) j ∷ [])
 
 pub shown-no-record : (b : List ℕ) (u k : ℕ) → (showRefusal b u k ≡ 0 → ⊥) → (isRecord (showPart b u k) ≡ false) × (recordFigures (showPart b u k) ≡ 0 ∷ 0 ∷ 0 ∷ 0 ∷ [])
 unfolding showPart

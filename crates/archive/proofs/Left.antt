@@ -9,27 +9,21 @@ use borrow.Author.Tests.{ltb-false}
 use lib.ListN.{length, getD, take, drop, length-append}
 use lib.Seq.{take-all, drop-at}
 use Rattle.binary64.specs.Bytes.{bytesOf, splice}
-use Rattle.binary64.proofs.Splice.{length-splice, splice-read, splice-before, splice-behind}
+use Rattle.binary64.proofs.Splice.{length-splice, splice-before, splice-behind}
 use Rattle.scenario.proofs.Refusals.{none-holds}
 use Rattle.emission.specs.Figures.{figuresOf}
 use Rattle.records.specs.Layout.{recordOf, trailer, usedLength, recordSize, edition, bytesAt}
 use Rattle.records.specs.Fields.{given, figureAt, fields, noField, fieldBytes}
 use Rattle.records.specs.Buffer.{countAt, written}
 use Rattle.records.proofs.Writing.{length-trailer}
-use Rattle.records.proofs.RecordLaws.{Sized, length-recordOf, part-take, part-drop}
-use Rattle.records.proofs.FieldTable.{written-at, written-field}
+use Rattle.records.proofs.RecordLaws.{Sized, length-recordOf}
+use Rattle.records.proofs.FieldTable.{read-back, written-at, written-field}
 use Rattle.archive.specs.Offers.{Offer}
 use Rattle.archive.specs.Answers.{start, entry, emptied, filed}
 use Rattle.archive.specs.Archive.{emptyRefusals, emptyRefusal, emptyAnswer, emptyBytes, fileRefusal, lineFor, fileAnswer, fileBytes}
 use Rattle.archive.specs.Left.{LeftByEmpty, LeftByFile}
 use Rattle.archive.proofs.Cases.{case-size, sized-line}
 use Rattle.archive.proofs.Accepted.{free-facts}
-
--- what was written is read back, some of it
-part-read : (b : List ℕ) (at : ℕ) (vs : List ℕ) (o w : ℕ) → at ≤ length b → o + w ≤ length vs → bytesAt (splice b at vs) (at + o) w ≡ bytesAt vs o w
-part-read b at vs o w h k =
-    let s = splice b at vs in
-    sym (part-drop s o w at) ∙ sym (part-take (drop at s) o w (length vs) k) ∙ ap (λ (l : List ℕ). bytesAt l o w) (splice-read b at vs h)
 
 -- ── empty
 
@@ -105,7 +99,7 @@ module _ (b : List ℕ) (u : ℕ) (o : Offer) (e : fileRefusal b u o ≡ 0) wher
   filed-trailer =
       let r = recordOf (lineFor o) in
       let p : 96 * (n + 1) ≡ 96 * n + 96 = omega arith in
-      rw (e, part-read b (96 * n) vs 96 16 (omega (arith, fits)) (omega (arith, length-vs)), drop-at r (trailer recordSize edition (n + 1)) 96 (length-recordOf (lineFor o) sized), take-all 16 (trailer recordSize edition (n + 1)) (omega (arith, length-trailer recordSize edition (n + 1))), p)
+      rw (e, read-back b (96 * n) vs 96 16 (omega (arith, fits)) (omega (arith, length-vs)), drop-at r (trailer recordSize edition (n + 1)) 96 (length-recordOf (lineFor o) sized), take-all 16 (trailer recordSize edition (n + 1)) (omega (arith, length-trailer recordSize edition (n + 1))), p)
 
   filed-left : LeftByFile (countAt b u) o b (fileBytes b u o)
   filed-left = record { size = filed-size; before = filed-before; case = filed-case; figures = filed-figures; trailer = filed-trailer; behind = filed-behind }

@@ -9,7 +9,7 @@ use Rattle.binary64.specs.Bytes.{splice}
 use Rattle.scenario.specs.Refusal.{Condition, _when_, firstOf}
 use Rattle.scenario.specs.Case.{refusals}
 use Rattle.emission.specs.Figures.{figuresOf}
-use Rattle.records.specs.Layout.{Line, trailer, lineOf, trailerSize, usedLength, recordSize, edition, bytesAt}
+use Rattle.records.specs.Layout.{Line, trailer, lineOf, trailerSize, usedLength, recordSize, edition, recordAt}
 use Rattle.archive.specs.Conditions.{accepted, full, notCompartment}
 use Rattle.archive.specs.Offers.{Offer, lineWith}
 use Rattle.archive.specs.Answers.{start, entry, part, line, Answer, Effect, answerBy, leftBy}
@@ -81,13 +81,13 @@ unfoldable pub showRefusals : List ℕ → ℕ → ℕ → List Condition
 showRefusals b u k = (21 when broken b u) ∷ (24 when leb (countAt b u) k) ∷ []
 
 abbrev pub showEffect : List ℕ → ℕ → ℕ → Effect (List ℕ)
-showEffect b u k = record { refusals = showRefusals b u k; gives = part (bytesAt b (recordSize * k) recordSize); leaves = b; beside = part [] }
+showEffect b u k = record { refusals = showRefusals b u k; gives = part (recordAt recordSize b k); leaves = b; beside = part [] }
 
 abbrev pub showRefusal : List ℕ → ℕ → ℕ → ℕ
 showRefusal b u k = firstOf (showRefusals b u k)
 
 unfoldable pub showPart : List ℕ → ℕ → ℕ → List ℕ
-showPart b u k = accepted (showRefusal b u k) (bytesAt b (recordSize * k) recordSize) []
+showPart b u k = accepted (showRefusal b u k) (recordAt recordSize b k) []
 
 -- ── worst
 

@@ -6,7 +6,7 @@ use base.Fml.{Lft}
 use lib.ListN.{length}
 use Rattle.scenario.specs.Case.{refusalOf}
 use Rattle.emission.specs.Figures.{figuresOf}
-use Rattle.records.specs.Layout.{trailerSize, usedLength, recordSize, bytesAt}
+use Rattle.records.specs.Layout.{trailerSize, usedLength, recordSize, bytesAt, recordAt}
 use Rattle.records.specs.Lines.{worstOf}
 use Rattle.records.specs.Buffer.{countAt, linesIn}
 use Rattle.archive.specs.Conditions.{accepted}
@@ -33,7 +33,7 @@ use Rattle.history.proofs.Interface.{c-lawful}
 -- ── that there are such calls and histories
 
 module _ (κ : Lft) where
-  shown-place : (b : List ℕ) (k r : ℕ) → bytesAt b (accepted r (recordSize * k) 0) (accepted r recordSize 0) ≡ accepted r (bytesAt b (recordSize * k) recordSize) []
+  shown-place : (b : List ℕ) (k r : ℕ) → bytesAt b (accepted r (recordSize * k) 0) (accepted r recordSize 0) ≡ accepted r (recordAt recordSize b k) []
   shown-place b k zero = refl
   shown-place b k (suc r) = refl
 

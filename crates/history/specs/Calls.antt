@@ -5,7 +5,7 @@ use Prim.Native.Nat.{ℕ, _+_, _*_}
 use denote.Ref.{now}
 use Rattle.emission.specs.Called.{Called, ends}
 use Rattle.emission.proofs.Demand2.{WorkOutCall}
-use Rattle.records.specs.Layout.{usedLength, recordSize, bytesAt}
+use Rattle.records.specs.Layout.{usedLength, recordSize, recordAt}
 use Rattle.records.specs.Lines.{worstOf}
 use Rattle.records.specs.Buffer.{countAt, linesIn}
 use Rattle.archive.specs.Conditions.{accepted}
@@ -74,7 +74,7 @@ Returned (empties k) r = k .result ≡ accepted r (Used 16) (Refused r)
 Returned (files k) r =
     let n = countAt (now (k .args .0)) (k .args .1 .0) in
     k .result ≡ accepted r (Filed n (usedLength recordSize (n + 1))) (NotFiled r)
-Returned (shows k t s) r = now (k .result) ≡ accepted r (bytesAt (now (k .args .0)) (recordSize * k .args .1 .1 .0) recordSize) []
+Returned (shows k t s) r = now (k .result) ≡ accepted r (recordAt recordSize (now (k .args .0)) (k .args .1 .1 .0)) []
 Returned (names k) r = k .result ≡ accepted r (Number (worstOf (k .args .1 .1 .0) (linesIn (now (k .args .0)) (k .args .1 .0)))) (NotNamed r)
 
 -- work out, called on the case c, gave the figures f

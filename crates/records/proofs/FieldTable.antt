@@ -73,7 +73,7 @@ within-record o w (figureAt k) p = omega arith
 -- ── and in what is written
 
 -- what was spliced in is read back
-read-back : (l : List ℕ) (at : ℕ) (vs : List ℕ) (o w : ℕ) → at ≤ length l → o + w ≤ length vs → bytesAt (splice l at vs) (at + o) w ≡ bytesAt vs o w
+pub read-back : (l : List ℕ) (at : ℕ) (vs : List ℕ) (o w : ℕ) → at ≤ length l → o + w ≤ length vs → bytesAt (splice l at vs) (at + o) w ≡ bytesAt vs o w
 read-back l at vs o w h k = sym (part-part (splice l at vs) at (length vs) o w k) ∙ ap (λ (r : List ℕ). bytesAt r o w) (splice-read l at vs h)
 
 pub written-at : (b : List ℕ) (n : ℕ) (l : Line) (o w : ℕ) (s : Source) → Sized l → recordSize * n ≤ length b → Placed o w s
