@@ -3,7 +3,7 @@
 -- That patterns are in the order of their values is in crate binary64, `Order`.
 use mathlib.Core.Path.{_≡_, refl, ap}
 use mathlib.Core.Bool.{Bool, true, false, not, _&&_, cond}
-use mathlib.Core.List.{List, [], _∷_}
+use mathlib.Core.List.{List, _∷_}
 use Prim.Native.Nat.{ℕ, zero, suc, _*_}
 use lib.Dec.{leb, eqb}
 use lib.Ieee.{ofInt, toBits}
@@ -22,16 +22,16 @@ use Rattle.binary64.proofs.Bools.{both, every, every-at}
 -- ── the rule of a limit, as a test
 
 isLimit : Bool → Listing → ℕ → Bool
-isLimit own l m = cond (listed own l) (eqb (exactOf m) (limit l * one) && not (eqb m 0)) (eqb m 0)
+isLimit own l m = cond (listed own l) (eqb (whole m) (limit l * one) && not (eqb m 0)) (eqb m 0)
 
 limit-by-test : (own : Bool) (l : Listing) (m : ℕ) → isLimit own l m ≡ true → IsLimit own l m
 unfolding isLimit
 limit-by-test own l m = go (listed own l) refl
   where
-    go : (t : Bool) → listed own l ≡ t → cond t (eqb (exactOf m) (limit l * one) && not (eqb m 0)) (eqb m 0) ≡ true → IsLimit own l m
+    go : (t : Bool) → listed own l ≡ t → cond t (eqb (whole m) (limit l * one) && not (eqb m 0)) (eqb m 0) ≡ true → IsLimit own l m
     go true e h =
-        let p = both (eqb (exactOf m) (limit l * one)) (not (eqb m 0)) h in
-        record { none = rw e (not-true (eqb m 0) (p .1)); most = λ q. eqb-true (exactOf m) (limit l * one) (p .0) }
+        let p = both (eqb (whole m) (limit l * one)) (not (eqb m 0)) h in
+        record { none = rw e (not-true (eqb m 0) (p .1)); most = λ q. eqb-true (whole m) (limit l * one) (p .0) }
     go false e h = record { none = rw e h; most = λ q. let z : _≡_ {A = ℕ} 0 1 = cc in absurd (omega arith) }
 
 -- ── of the whole table
@@ -65,7 +65,7 @@ over-by-limit : (own : Bool) (l : Listing) (m p : ℕ) → IsLimit own l m → (
 unfolding overLimit
 over-by-limit own l m p h = rw (h .none) (go (listed own l) (h .most))
   where
-    go : (t : Bool) → (t ≡ true → exactOf m ≡ limit l * one) → (not (not t) && not (leb p m)) ≡ (t && not (leb (exactOf p) (limit l * one)))
+    go : (t : Bool) → (t ≡ true → whole m ≡ limit l * one) → (not (not t) && not (leb p m)) ≡ (t && not (leb (exactOf p) (limit l * one)))
     go true e = ap not (limit-as-pattern p m (limit l) (e refl))
     go false e = refl
 
