@@ -8,7 +8,7 @@ use native.Mathlib.Omega.{arith}
 use borrow.Author.Tests.{eq-eqb, ne-eqb}
 use lib.ListN.{length, drop, length-drop}
 use lib.Seq.{length-take-le}
-use Rattle.binary64.specs.Bytes.{numberAt}
+use Rattle.octets.specs.Bytes.{numberAt}
 use Rattle.records.specs.Layout.{bytesAt}
 use Rattle.records.proofs.RecordLaws.{line-figures, number-part}
 use Rattle.archive.specs.Archive.{showRefusal, showPart, isRecord, recordFigures}

@@ -8,8 +8,8 @@ use native.Mathlib.Omega.{arith}
 use borrow.Author.Tests.{ltb-false}
 use lib.ListN.{length, getD, take, drop, length-append}
 use lib.Seq.{take-all, drop-at}
-use Rattle.binary64.specs.Bytes.{bytesOf, splice}
-use Rattle.binary64.proofs.Splice.{length-splice, splice-before, splice-behind}
+use Rattle.octets.specs.Bytes.{bytesOf, splice}
+use Rattle.octets.proofs.Splice.{length-splice, splice-before, splice-behind}
 use Rattle.scenario.proofs.Refusals.{none-holds}
 use Rattle.emission.specs.Figures.{figuresOf}
 use Rattle.records.specs.Layout.{recordOf, trailer, usedLength, recordSize, edition, bytesAt}

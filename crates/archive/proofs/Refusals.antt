@@ -11,7 +11,7 @@ use borrow.Author.Tests.{ltb-false, eqb-false, le-ltb, ne-eqb}
 use lib.Dec.{ltb, eqb}
 use Rattle.scenario.specs.Refusal.{Condition, firstOf}
 use Rattle.scenario.specs.Case.{refusals, refusalOf}
-use Rattle.binary64.proofs.Bools.{neither}
+use Rattle.octets.proofs.Bools.{neither}
 use Rattle.scenario.proofs.Refusals.{first-of-append, first-of-some}
 use Rattle.archive.specs.Conditions.{full, notCompartment}
 use Rattle.records.specs.Layout.{mostRecords, recordSize}

@@ -5,7 +5,7 @@ use mathlib.Core.List.{List, [], _∷_, _++_}
 use Prim.Native.Nat.{ℕ, _+_, _*_}
 use lib.Dec.{ltb, leb, eqb}
 use lib.ListN.{length}
-use Rattle.binary64.specs.Bytes.{splice}
+use Rattle.octets.specs.Bytes.{splice}
 use Rattle.scenario.specs.Refusal.{Condition, _when_, firstOf}
 use Rattle.scenario.specs.Case.{refusals}
 use Rattle.emission.specs.Figures.{figuresOf}

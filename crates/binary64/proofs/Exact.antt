@@ -15,7 +15,7 @@ use lib.Ieee.Exact.{HasValue, odd-sign}
 use borrow.Author.Tests.{lt-leb, le-ltb, eq-eqb, ne-eqb, eqb-true, eqb-false, not-true}
 use Rattle.binary64.specs.Pattern.{signOf, exponentOf, fractionOf, isUnsignedFinite}
 use Rattle.binary64.specs.Quantity.{wholeAt, whole, significandOf, shiftOf}
-use Rattle.binary64.proofs.Bools.{both}
+use Rattle.octets.proofs.Bools.{both}
 
 -- the patterns below that of infinity
 pub unsigned-finite-exactly : (b : ℕ) → (isUnsignedFinite b ≡ true → b < 2047 * 2 ^ 52) × (b < 2047 * 2 ^ 52 → isUnsignedFinite b ≡ true)

@@ -9,7 +9,7 @@ use Prim.Native.Nat.{ℕ, _+_, _*_, _/_, _≤_, _<_, min}
 use native.Mathlib.Numerals.{add-one}
 use borrow.Author.Tests.{lt-ltb, le-ltb, le-leb, lt-leb, ne-eqb}
 use lib.ListN.{length, take, set, replicate}
-use Rattle.binary64.specs.Bytes.{bytesOf, numberAt, splice}
+use Rattle.octets.specs.Bytes.{bytesOf, numberAt, splice}
 use Rattle.scenario.specs.Builder.{caseBytes}
 use Rattle.records.specs.Layout.{Line, lineOf}
 use Rattle.records.specs.Buffer.{written}

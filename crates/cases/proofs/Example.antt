@@ -4,7 +4,7 @@ use mathlib.Core.Bool.{true, false}
 use mathlib.Core.List.{List}
 use Prim.Native.Nat.{ℕ}
 use Rattle.bytes.specs.Bytes.{indexOf, indexAfter}
-use Rattle.binary64.specs.Bytes.{bytesOf, numberOf, numberAt, splice}
+use Rattle.octets.specs.Bytes.{bytesOf, numberOf, numberAt, splice}
 use Rattle.scenario.specs.Builder.{caseBytes, hundred, unit}
 use Rattle.listing.specs.Listing.{codes}
 use Rattle.cases.specs.Words.{onto, partsOf, sameWord, placeIn}

@@ -13,9 +13,9 @@ use borrow.Author.Tests.{eq-eqb, ne-eqb}
 use lib.Dec.{eqb}
 use lib.ListN.{length, take, drop, set}
 use Rattle.bytes.specs.Bytes.{indexOf}
-use Rattle.binary64.specs.Bytes.{bytesOf, splice}
-use Rattle.binary64.proofs.Numbers.{length-bytesOf}
-use Rattle.binary64.proofs.Splice.{splice-nil, splice-join}
+use Rattle.octets.specs.Bytes.{bytesOf, splice}
+use Rattle.octets.proofs.Numbers.{length-bytesOf}
+use Rattle.octets.proofs.Splice.{splice-nil, splice-join}
 use Rattle.listing.proofs.Stores.{store-one}
 use Rattle.cases.specs.declared.numbers.Read.{Read}
 use Rattle.cases.specs.declared.numbers.Read.the-variants.{Number, Nothing}

@@ -14,7 +14,7 @@ use borrow.Author.Tests.{lt-ltb, le-ltb, eq-eqb, ne-eqb, leb-false, ltb-false}
 use lib.Dec.{ltb, leb, eqb}
 use lib.ListN.{length, getD, drop, drop-of-length-le}
 use lib.Seq.{drop-cons}
-use Rattle.binary64.proofs.Bools.{neither}
+use Rattle.octets.proofs.Bools.{neither}
 use Rattle.cases.specs.declared.numbers.Read.the-variants.{Number, Nothing}
 use Rattle.cases.specs.Numbers.{digitOf, valueFrom, valueIn, isHexadecimal, numberIn}
 use Rattle.cases.proofs.WordLaws.{restOf, rest-is}

@@ -15,7 +15,7 @@ use lib.Dec.{eqb}
 use lib.ListN.{length, take, drop, length-drop, drop-of-length-le}
 use lib.Seq.{take-length, take-all, drop-drop}
 use Rattle.bytes.specs.Bytes.{slice, indexOf, indexAfter}
-use Rattle.binary64.proofs.Bools.{both}
+use Rattle.octets.proofs.Bools.{both}
 use Rattle.cases.specs.Words.{onto, partsOf, wordsOf, sameWord, placeIn}
 
 pub first-is : (b : ℕ) (l : List ℕ) → 0 + indexOf b (slice 0 (length l) l) ≡ indexOf b l

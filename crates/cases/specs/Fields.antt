@@ -6,7 +6,7 @@ use Prim.Native.Nat.{ℕ, _+_, _-_, _*_, _/_, _^_, min}
 use lib.Dec.{leb, eqb}
 use lib.ListN.{length, take, drop}
 use Rattle.bytes.specs.Bytes.{indexOf}
-use Rattle.binary64.specs.Bytes.{bytesOf, numberAt, splice}
+use Rattle.octets.specs.Bytes.{bytesOf, numberAt, splice}
 use Rattle.listing.specs.Listing.{codes}
 use Rattle.cases.specs.declared.numbers.Read.{Read}
 use Rattle.cases.specs.declared.numbers.Read.the-variants.{Number, Nothing}

@@ -3,7 +3,7 @@
 ghost use Prim.Native.Nat.{_+_, _/_, _^_, _≤_};
 ghost use mathlib.Core.Path.{_≡_};
 ghost use lib.ListN.{length};
-ghost use Rattle.binary64.specs.Bytes.{bytesOf, splice};
+ghost use Rattle.octets.specs.Bytes.{bytesOf, splice};
 ghost use Rattle.cases.specs.Words.{wordsOf};
 ghost use Rattle.cases.specs.Numbers.{numberIn};
 ghost use Rattle.cases.specs.Fields.{fieldAt, widthOf, fits, withNumber, isField, withField, areFields, withFields};

@@ -9,9 +9,9 @@ ghost use Rattle.cases.specs.Calls.{recordedLength, recordedBytes, grown
 use crate::calls::write;
 use crate::calls::write_number;
 use crate::numbers::least;
-use binary64::bytes::put_u64;
 use listing::Listed;
 use listing::MOST_OUTPUT;
+use octets::put_u64;
 use records::figures_at;
 use records::put_line;
 

@@ -12,12 +12,12 @@ mod lists;
 mod numbers;
 mod words;
 
-use binary64::bytes::u8_at;
-use binary64::bytes::u64_at;
 use calls::write;
 use fields::set_fields;
 use libc::STDIN_FILENO;
 use numbers::least;
+use octets::u8_at;
+use octets::u64_at;
 use words::first;
 use words::index_of;
 

@@ -1,31 +1,17 @@
 -- Laws on products.
 --   grow-none, grow-one, grow-two   `grow`: the carry takes no limb, or one or two, the top one not 0
---   front-stays, stays-above        the limbs that are not written
 use mathlib.Core.Path.{_≡_, sym, ap, _∙_}
 use mathlib.Core.List.{List, _++_}
 use Prim.Native.Nat.{ℕ, _+_, _-_, _*_, _/_, _%_, _^_, _≤_, _<_}
 use native.Mathlib.Omega.{arith}
 use lib.ListN.{length, take, drop, getD, set, length-set}
-use lib.Seq.{length-take-le, length-front, getD-set-same, drop-append-add, drop-drop, drop-set-lt}
-use Rattle.natural.specs.Value.{value}
-use Rattle.natural.proofs.Value.{value-front, value-store, store-two}
+use lib.Seq.{length-take-le, length-front, getD-set-same, drop-set-lt}
+use Rattle.limbs.specs.Value.{value}
+use Rattle.limbs.proofs.Value.{value-front, value-store, store-two, front-stays}
 
 -- a limb that is not 0 is stored as the top one of r
 top-stored : (l : List ℕ) (m r x : ℕ) → m < length l → r - 1 ≡ m → 0 < x → 0 < getD (set l m x) (r - 1) 0
 top-stored l m r x h e p = rw (e, getD-set-same l m x 0 h) p
-
--- the first n limbs of l became e, and those from r on stay
-pub front-stays : (l e : List ℕ) (n r : ℕ) → n ≤ length l → length e ≡ length (take n l) → n ≤ r → drop r (e ++ drop n l) ≡ drop r l
-front-stays l e n r h len m =
-    let j : length e + (r - n) ≡ r = omega (arith, length-take-le n l h) in
-    let k : n + (r - n) ≡ r = omega arith in
-    ap (λ (z : ℕ). drop z (e ++ drop n l)) (sym j) ∙ drop-append-add e (drop n l) (r - n) ∙ drop-drop (r - n) n l ∙ ap (λ (z : ℕ). drop z l) k
-
--- what stays from n on stays from r on
-pub stays-above : (l l₀ : List ℕ) (n r : ℕ) → n ≤ r → drop n l ≡ drop n l₀ → drop r l ≡ drop r l₀
-stays-above l l₀ n r h e =
-    let k : n + (r - n) ≡ r = omega arith in
-    ap (λ (z : ℕ). drop z l) (sym k) ∙ sym (drop-drop (r - n) n l) ∙ ap (λ (z : List ℕ). drop (r - n) z) e ∙ drop-drop (r - n) n l₀ ∙ ap (λ (z : ℕ). drop z l₀) k
 
 -- the first n limbs of l became e, and k is carried out of them
 module _ (l e : List ℕ) (n T k : ℕ) (len : length e ≡ length (take n l)) (inv : value e + k * 2 ^ (32 * length (take n l)) ≡ T) where

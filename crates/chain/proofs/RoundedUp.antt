@@ -13,9 +13,9 @@ use lib.Arith.{digits-lt, digits-div, digits-mod}
 use lib.ListN.{length, take, drop, getD, length-drop, drop-of-length-le}
 use lib.Seq.{take-at, drop-at, length-take-le}
 use lib.Pow.{pow-pos}
-use Rattle.natural.specs.Value.{value}
+use Rattle.limbs.specs.Value.{value}
 use Rattle.natural.specs.Ceiling.{ceiling}
-use Rattle.natural.proofs.Value.{weight-split, value-split, value-below, value-small, value-none, part-from}
+use Rattle.limbs.proofs.Value.{weight-split, value-split, value-below, value-small, value-none, part-from}
 use Rattle.natural.proofs.Ceiling.{ceiling-of}
 
 pub divided-by-one : (v d : ℕ) → d ≡ 1 → (v ≡ v * d + 0) × (0 < d)

@@ -3,4 +3,3 @@
 // Rounding up leaves the number rounded down in them.
 pub mod products;
 pub mod rounding;
-pub mod starts;

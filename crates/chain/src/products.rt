@@ -2,10 +2,10 @@
 ghost use mathlib.Core.Path.{_≡_};
 ghost use Prim.Native.Nat.{_+_, _-_, _*_, _≤_, _<_};
 ghost use lib.ListN.{length, take, drop, getD};
-ghost use Rattle.natural.specs.Value.{value};
+ghost use Rattle.limbs.specs.Value.{value};
+use limbs::limb::high;
+use limbs::limb::low;
 use natural::arithmetic::times_add;
-use natural::limb::high;
-use natural::limb::low;
 
 // Multiplies the number in the first n limbs by f and adds `more`; returns how many limbs the result takes: n, or one or two
 // more, of which the top one is not 0. The limbs above them stay.

@@ -2,13 +2,13 @@
 ghost use mathlib.Core.Path.{_≡_};
 ghost use Prim.Native.Nat.{_+_, _*_, _/_, _%_, _^_, _≤_, _<_, min};
 ghost use lib.ListN.{take, drop};
-ghost use Rattle.natural.specs.Value.{value};
+ghost use Rattle.limbs.specs.Value.{value};
 ghost use Rattle.natural.specs.Ceiling.{ceiling};
+use limbs::limb::wide;
+use limbs::reading::is_zero;
+use limbs::reading::to_u64;
 use natural::arithmetic::divide;
 use natural::arithmetic::shift_down;
-use natural::limb::wide;
-use natural::reading::is_zero;
-use natural::reading::to_u64;
 
 // 1 where the number is not 0.
 fn sticky(limbs: &[u32]) -> u64

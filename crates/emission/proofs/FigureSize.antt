@@ -11,7 +11,7 @@ use lib.Dec.{leb, eqb}
 use lib.Ieee.{Float}
 use lib.ListN.{getD}
 use Rattle.natural.proofs.Ceiling.{ceiling-at-most}
-use Rattle.binary64.proofs.Bools.{every, every-at}
+use Rattle.octets.proofs.Bools.{every, every-at}
 use Rattle.scenario.specs.Case.{refusalOf}
 use Rattle.scenario.specs.Decoding.{caseOf, headOf}
 use Rattle.scenario.specs.declared.Case.{Case}

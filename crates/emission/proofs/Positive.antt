@@ -15,7 +15,7 @@ use Rattle.scenario.specs.Decoding.{caseOf, headOf}
 use Rattle.scenario.specs.declared.Case.{Case}
 use Rattle.scenario.specs.declared.Case.the-variants.{Measured, Unknown, Application, Sanitary, Formulation, Hygiene, Toilets}
 use Rattle.scenario.specs.declared.Head.{Head}
-use Rattle.binary64.proofs.Bools.{both, every, every-at}
+use Rattle.octets.proofs.Bools.{both, every, every-at}
 use Rattle.product.specs.Ratio.{_over_}
 use Rattle.equations.specs.Rows.{cities, noCity, cityAt, hygienes, noHygiene, hygieneAt}
 use Rattle.product.specs.Chain.{Factor, number, quantity}

@@ -8,10 +8,10 @@ use Prim.Native.Nat.{_*_}
 use lib.Dec.{eqb}
 use lib.Ieee.{add, le, ofBits, toBits}
 use borrow.Author.Tests.{eqb-true}
-use Rattle.binary64.specs.Bytes.{bytesOf, numberOf, numberAt}
+use Rattle.octets.specs.Bytes.{bytesOf, numberOf, numberAt}
 use Rattle.binary64.specs.Pattern.{isUnsignedFinite}
 use Rattle.binary64.specs.Quantity.{wholeAt, whole}
-use Rattle.binary64.proofs.Bools.{both, every}
+use Rattle.octets.proofs.Bools.{both, every}
 use Rattle.scenario.specs.Case.{kinds, kindAt, notSixtyFour, kindUnknown, rowUnknown, routeNotAllowed, userNotAllowed, countNotAllowed, notNumber, notZeroBytes, overLimit, sumFrom, sumWithin, summedOf, sumOver, refusalOf}
 use Rattle.scenario.specs.Decoding.{caseWith, caseOfPatterns, caseOf, headOf}
 use Rattle.scenario.specs.Builder.{caseBytes}

@@ -11,7 +11,7 @@ use native.Mathlib.Omega.{arith}
 use lib.Dec.{leb}
 use lib.Ieee.{Float}
 use borrow.Author.Tests.{leb-true}
-use Rattle.binary64.proofs.Bools.{both}
+use Rattle.octets.proofs.Bools.{both}
 use Rattle.product.specs.Ratio.{Ratio, _over_, _·_, _⊕_, oneLess, exactly, Same, roundedUp}
 use Rattle.product.specs.Chain.{Factor, quantity, less, chain}
 use Rattle.equations.specs.Equations.{microgram, micrograms}

@@ -13,7 +13,7 @@ use lib.Dec.{leb, eqb}
 use lib.ListN.{length, getD}
 use lib.Ieee.{Float}
 use borrow.Author.Tests.{leb-true, eqb-true}
-use Rattle.binary64.proofs.Bools.{both}
+use Rattle.octets.proofs.Bools.{both}
 use Rattle.product.specs.Ratio.{Ratio, _over_, _·_, _⊕_, Same, roundedUp}
 use Rattle.equations.specs.Rows.{cityAt}
 use Rattle.product.specs.Chain.{Factor, number, quantity, chain}

@@ -4,7 +4,7 @@ use mathlib.Core.Bool.{true, false}
 use mathlib.Core.List.{[], _∷_}
 use Prim.Native.Nat.{_+_, _*_}
 use denote.Ref.{now}
-use Rattle.binary64.specs.Bytes.{numberAt}
+use Rattle.octets.specs.Bytes.{numberAt}
 use Rattle.archive.specs.Archive.{showRefusal, isRecord, recordFigures}
 use Rattle.archive.proofs.FiguresRead.{shown-record, shown-no-record}
 use Rattle.history.specs.Calls.{ShowCall, ShowRefusalCall, FiguresCall, SameArguments}

@@ -11,9 +11,9 @@ use native.Mathlib.Omega.{arith}
 use lib.ListN.{length, getD, set, take, drop, drop-of-length-le, length-append}
 use lib.Seq.{drop-cons, getD-take}
 use Rattle.natural.proofs.Ceiling.{ceiling-of}
-use Rattle.binary64.specs.Bytes.{numberAt, splice}
-use Rattle.binary64.proofs.Numbers.{numberAt-one}
-use Rattle.binary64.proofs.Splice.{splice-join}
+use Rattle.octets.specs.Bytes.{numberAt, splice}
+use Rattle.octets.proofs.Numbers.{numberAt-one}
+use Rattle.octets.proofs.Splice.{splice-join}
 use Rattle.records.specs.Layout.{lineOf}
 use Rattle.records.proofs.RecordLaws.{number-part, line-figures}
 use Rattle.listing.specs.Decimal.{decimal}

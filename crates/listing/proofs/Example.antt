@@ -9,7 +9,7 @@ use Prim.Native.Nat.{ℕ, _≤_, _<_}
 use borrow.Author.Tests.{lt-ltb, le-ltb}
 use lib.ListN.{length}
 use Rattle.natural.specs.Ceiling.{ceiling}
-use Rattle.binary64.specs.Bytes.{bytesOf, numberOf, numberAt}
+use Rattle.octets.specs.Bytes.{bytesOf, numberOf, numberAt}
 use Rattle.scenario.specs.Builder.{caseBytes, hundred, unit}
 use Rattle.records.specs.Layout.{figureBytes, recordOf, records, trailer, archiveOf, figuresIn, lineOf, firstLines, recordSize, edition}
 use Rattle.records.specs.Buffer.{broken, linesIn}

@@ -6,7 +6,7 @@ use Prim.Native.Nat.{ℕ, _≤_, _<_}
 use native.Mathlib.Omega.{arith}
 use borrow.Author.Tests.{le-leb, lt-leb}
 use lib.ListN.{length, getD, take}
-use Rattle.binary64.proofs.Splice.{length-splice, splice-read, splice-behind}
+use Rattle.octets.proofs.Splice.{length-splice, splice-read, splice-behind}
 use Rattle.listing.specs.Listing.{listingOf, lengths, listedBytes}
 
 pub print-exactly : (b o : List ℕ)

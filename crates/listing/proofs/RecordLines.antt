@@ -11,9 +11,9 @@ use native.Mathlib.Omega.{arith}
 use lib.ListN.{length, take, drop, length-append, length-drop}
 use lib.Seq.{getD-drop, length-take-le}
 use Rattle.natural.proofs.Ceiling.{ceiling-at-most}
-use Rattle.binary64.specs.Bytes.{AreBytes, numberAt, splice}
-use Rattle.binary64.proofs.Numbers.{numberAt-small}
-use Rattle.binary64.proofs.Splice.{splice-join}
+use Rattle.octets.specs.Bytes.{AreBytes, numberAt, splice}
+use Rattle.octets.proofs.Numbers.{numberAt-small}
+use Rattle.octets.proofs.Splice.{splice-join}
 use Rattle.records.specs.Layout.{Line, lineOf, firstLines}
 use Rattle.records.proofs.LinesFrom.{lines-cons, lines-end}
 use Rattle.listing.specs.Decimal.{decimal}

@@ -9,8 +9,8 @@ use native.Mathlib.Nat.{add-zero}
 use native.Mathlib.Omega.{arith}
 use lib.ListN.{length, take, drop, set, length-append, length-set}
 use lib.Seq.{drop-cons, getD-set-same, drop-set-lt, take-set-le}
-use Rattle.binary64.specs.Bytes.{splice}
-use Rattle.binary64.proofs.Splice.{splice-nil}
+use Rattle.octets.specs.Bytes.{splice}
+use Rattle.octets.proofs.Splice.{splice-nil}
 use Rattle.listing.specs.Decimal.{character, decimal}
 use Rattle.listing.proofs.DecimalText.{decimal-last, decimal-more, length-more}
 

@@ -15,9 +15,9 @@ use borrow.Author.Tests.{ltb-false, lt-ltb, leb-true, leb-false, le-leb, lt-leb}
 use lib.Dec.{leb}
 use lib.ListN.{length, take, drop, length-append, length-drop}
 use lib.Seq.{take-all, length-take-le}
-use Rattle.binary64.specs.Bytes.{AreBytes, splice}
-use Rattle.binary64.proofs.Splice.{splice-join, splice-read}
-use Rattle.binary64.proofs.Bools.{neither}
+use Rattle.octets.specs.Bytes.{AreBytes, splice}
+use Rattle.octets.proofs.Splice.{splice-join, splice-read}
+use Rattle.octets.proofs.Bools.{neither}
 use Rattle.records.specs.Layout.{firstLines, recordSize}
 use Rattle.records.specs.Buffer.{countAt}
 use Rattle.records.proofs.Trailer.{sound-facts}

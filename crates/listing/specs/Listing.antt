@@ -8,7 +8,7 @@ use Prim.Native.String.{String, [] as none, _∷_ as _then_}
 use lib.Dec.{ltb, leb}
 use lib.ListN.{length, take}
 use Rattle.natural.specs.Ceiling.{ceiling}
-use Rattle.binary64.specs.Bytes.{splice}
+use Rattle.octets.specs.Bytes.{splice}
 use Rattle.scenario.specs.Case.{kindOf, rowOf, routeOf, dossierOf}
 use Rattle.records.specs.Layout.{Line}
 use Rattle.records.specs.Buffer.{broken, linesIn}

@@ -2,7 +2,7 @@
 ghost use mathlib.Core.Path.{_≡_};
 ghost use Prim.Native.Nat.{_+_, _≤_};
 ghost use lib.ListN.{length};
-ghost use Rattle.binary64.specs.Bytes.{splice};
+ghost use Rattle.octets.specs.Bytes.{splice};
 ghost use Rattle.listing.specs.Decimal.{decimal};
 
 pub fn decimal_length(x: u64) -> usize

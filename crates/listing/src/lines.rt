@@ -2,14 +2,14 @@
 ghost use mathlib.Core.Path.{_≡_};
 ghost use Prim.Native.Nat.{_+_, _*_, _≤_, _<_};
 ghost use lib.ListN.{length};
-ghost use Rattle.binary64.specs.Bytes.{splice};
+ghost use Rattle.octets.specs.Bytes.{splice};
 ghost use Rattle.records.specs.Layout.{firstLines, lineOf, figuresEnd};
 ghost use Rattle.listing.specs.Listing.{columnsOf, columnsText, lineText, linesText};
 ghost use Rattle.listing.specs.Listing.{milligrams as Listing·milligrams};
 use crate::decimal::decimal_length;
 use crate::decimal::put_decimal;
-use binary64::bytes::u8_at;
-use binary64::bytes::u64_at;
+use octets::u8_at;
+use octets::u64_at;
 use records::figures_at;
 
 const SPACE: u8 = 32;

@@ -11,8 +11,8 @@ use Prim.Native.Nat.{ℕ, zero, suc, _+_, _-_, _*_, _^_, _≤_, _<_}
 use native.Mathlib.Omega.{arith}
 use lib.ListN.{length, take, drop, getD, set, length-drop, length-set}
 use lib.Seq.{getD-drop, drop-drop, drop-set-lt, take-all, take-length, length-front, length-take-le}
-use Rattle.natural.specs.Value.{value}
-use Rattle.natural.proofs.Value.{weight-next, weight-add, value-next, value-store, value-same, value-split, value-front, value-back, part-from, value-below}
+use Rattle.limbs.specs.Value.{value}
+use Rattle.limbs.proofs.Value.{weight-next, weight-add, value-next, value-store, value-same, value-split, value-front, value-back, part-from, value-below}
 
 -- the limbs below i are worked on, those from i on are as at entry: with s the former are m times those at entry, and t
 pub record Worked (l l₀ : List ℕ) (m i s t : ℕ) : Type 0 where

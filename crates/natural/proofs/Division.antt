@@ -9,8 +9,8 @@ use native.Mathlib.Nat.{le-refl, not-suc-le-zero}
 use native.Mathlib.Omega.{arith}
 use lib.ListN.{length, take, drop, getD, set, length-set}
 use lib.Seq.{getD-take, take-set-le, take-take}
-use Rattle.natural.specs.Value.{value}
-use Rattle.natural.proofs.Value.{value-none, value-drop, value-drop-set}
+use Rattle.limbs.specs.Value.{value}
+use Rattle.limbs.proofs.Value.{value-none, value-drop, value-drop-set}
 
 pub record Divided (l l₀ : List ℕ) (d i r : ℕ) : Type 0 where
   pub within : i ≤ length l

@@ -2,12 +2,12 @@
 ghost use mathlib.Core.Path.{_≡_};
 ghost use Prim.Native.Nat.{_+_, _*_, _^_, _≤_, _<_};
 ghost use lib.ListN.{length};
-ghost use Rattle.natural.specs.Value.{value};
-use crate::limb::add_step;
-use crate::limb::divide_step;
-use crate::limb::multiply_step;
-use crate::limb::shift_step;
-use crate::limb::subtract_step;
+ghost use Rattle.limbs.specs.Value.{value};
+use limbs::limb::add_step;
+use limbs::limb::divide_step;
+use limbs::limb::multiply_step;
+use limbs::limb::shift_step;
+use limbs::limb::subtract_step;
 
 // Multiplies by m and adds `more`; returns what is carried out of the top limb (GMP's mpn_mul_1).
 pub fn times_add(limbs: &mut [u32], m: u64, more: u64) -> u64

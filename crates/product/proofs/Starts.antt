@@ -9,7 +9,7 @@ use native.Mathlib.Omega.{arith}
 use lib.Pow.{pow-add, pow-pos}
 use lib.Ieee.{Float, binary64, toBits}
 use Rattle.binary64.specs.Quantity.{whole, one}
-use Rattle.natural.specs.Value.{value}
+use Rattle.limbs.specs.Value.{value}
 use Rattle.product.specs.Ratio.{Ratio, _over_, _·_, _⊕_, oneLess, exactly, Same, roundedUp}
 use Rattle.product.specs.Chain.{quantity, chain}
 use Rattle.product.specs.Ranges.{UpTo}

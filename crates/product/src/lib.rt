@@ -3,13 +3,13 @@ ghost use mathlib.Core.Path.{_≡_};
 ghost use mathlib.Core.List.{[], _∷_, _++_, map};
 ghost use Prim.Native.Nat.{_+_, _*_, _^_, _≤_, _<_, min};
 ghost use lib.ListN.{length, take};
-ghost use Rattle.natural.specs.Value.{value};
+ghost use Rattle.limbs.specs.Value.{value};
 ghost use Rattle.product.specs.Ratio.{_over_, _·_, _⊕_, exactly, Same, roundedUp};
 ghost use Rattle.product.specs.Chain.{quantity, less, chain};
 ghost use Rattle.product.specs.Ranges.{UpTo, Each, largest};
 use binary64::pattern::parts_of;
 use binary64::pattern::pattern_of;
-use chain::starts::larger;
+use starts::larger;
 
 // A quantity as significand / 2^depth.
 struct Dyadic {
@@ -89,7 +89,7 @@ pub fn remainder_up(x: f64, quantities: &[f64], k: u64, d: u32) -> u64
 {
     let q = dyadic_of(x);
     let mut limbs = [0u32; 46];
-    let n = chain::starts::complement(&mut limbs, q.depth, q.significand);
+    let n = starts::complement(&mut limbs, q.depth, q.significand);
     let m = times(&mut limbs, n, k);
     finish(&mut limbs, m, q.depth, &quantities[..], d)
 }
@@ -103,7 +103,7 @@ pub fn sum_up(a: f64, b: f64, quantities: &[f64], k: u64, d: u32) -> u64
     let q = dyadic_of(b);
     let depth = larger(p.depth, q.depth);
     let mut limbs = [0u32; 42];
-    let n = chain::starts::sum(
+    let n = starts::sum(
         &mut limbs,
         p.significand,
         depth - p.depth,

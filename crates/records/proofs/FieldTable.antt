@@ -10,11 +10,11 @@ use borrow.Author.Tests.{leb-true, eqb-true, ltb-true}
 use lib.Dec.{eqb, leb, ltb}
 use lib.ListN.{length, take, getD, length-append}
 use lib.Seq.{take-at, drop-append-add}
-use Rattle.binary64.specs.Bytes.{bytesOf, splice}
-use Rattle.binary64.proofs.Numbers.{length-bytesOf}
-use Rattle.binary64.proofs.Splice.{splice-read}
+use Rattle.octets.specs.Bytes.{bytesOf, splice}
+use Rattle.octets.proofs.Numbers.{length-bytesOf}
+use Rattle.octets.proofs.Splice.{splice-read}
 use Rattle.scenario.specs.Builder.{caseBytes}
-use Rattle.binary64.proofs.Bools.{both, every, every-at}
+use Rattle.octets.proofs.Bools.{both, every, every-at}
 use Rattle.records.specs.Layout.{Line, figureBytes, recordOf, trailer, recordSize, edition, bytesAt}
 use Rattle.records.specs.Fields.{Source, given, figureAt, Field, fields, noField, coversFrom, fieldBytes}
 use Rattle.records.specs.Buffer.{written}

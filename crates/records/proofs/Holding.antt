@@ -8,8 +8,8 @@ use Prim.Native.Nat.{ℕ, _+_, _*_, _≤_, _<_}
 use native.Mathlib.Omega.{arith}
 use lib.ListN.{length, getD, take, drop, length-append, take-append-drop}
 use lib.Seq.{take-at}
-use Rattle.binary64.specs.Bytes.{splice}
-use Rattle.binary64.proofs.Splice.{length-splice}
+use Rattle.octets.specs.Bytes.{splice}
+use Rattle.octets.proofs.Splice.{length-splice}
 use Rattle.records.specs.Layout.{Line, noLine, recordOf, records, trailer, archiveOf, firstLines, trailerSize, usedLength, mostRecords, recordSize, edition, recordAt}
 use Rattle.records.specs.Buffer.{countAt, broken, linesIn, written}
 use Rattle.records.proofs.RecordLaws.{AllStorable, Storable, storable-snoc, length-recordOf, length-records, firstLines-records, record-at, records-snoc}

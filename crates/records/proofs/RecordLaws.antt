@@ -9,8 +9,8 @@ use native.Mathlib.Nat.{mul-suc, mod-eq-of-lt, le-of-suc-le-suc, not-suc-le-zero
 use native.Mathlib.Omega.{arith}
 use lib.ListN.{length, getD, take, drop, length-append, length-drop}
 use lib.Seq.{take-at, drop-at, take-append-le, drop-append-le, drop-append-add, drop-drop, take-take, take-nil}
-use Rattle.binary64.specs.Bytes.{bytesOf, numberOf, numberAt}
-use Rattle.binary64.proofs.Numbers.{length-bytesOf, numberOf-bytesOf}
+use Rattle.octets.specs.Bytes.{bytesOf, numberOf, numberAt}
+use Rattle.octets.proofs.Numbers.{length-bytesOf, numberOf-bytesOf}
 use Rattle.records.specs.Layout.{Line, noLine, figureBytes, figuresIn, recordOf, records, lineOf, firstLines, caseSize, recordSize, bytesAt, recordAt}
 use Rattle.records.proofs.Writing.{length-figureBytes}
 

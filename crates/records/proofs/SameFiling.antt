@@ -9,7 +9,7 @@ use borrow.Author.Tests.{eq-eqb, ne-eqb, eqb-true, eqb-false}
 use lib.Dec.{eqb}
 use lib.ListN.{length, getD, take, drop, length-drop}
 use lib.Seq.{getD-drop}
-use Rattle.binary64.specs.Bytes.{AreBytes, numberOf, numberAt}
+use Rattle.octets.specs.Bytes.{AreBytes, numberOf, numberAt}
 use Rattle.scenario.specs.Case.{kindOf, rowOf, routeOf, userOf, dossierOf}
 use Rattle.records.specs.Layout.{noLine, caseSize, bytesAt, recordAt, lineOf, firstLines}
 use Rattle.records.specs.Lines.{sameBytes, sameFiling}

@@ -7,9 +7,9 @@ use Prim.Native.Nat.{ℕ, _+_, _-_, _*_, _^_, _≤_, _<_}
 use native.Mathlib.Omega.{arith}
 use borrow.Author.Tests.{le-ltb, eq-eqb, ltb-false, eqb-true, not-false}
 use lib.ListN.{length, length-append}
-use Rattle.binary64.specs.Bytes.{bytesOf, numberAt}
-use Rattle.binary64.proofs.Numbers.{length-bytesOf}
-use Rattle.binary64.proofs.Bools.{neither}
+use Rattle.octets.specs.Bytes.{bytesOf, numberAt}
+use Rattle.octets.proofs.Numbers.{length-bytesOf}
+use Rattle.octets.proofs.Bools.{neither}
 use Rattle.records.specs.Layout.{trailer, trailerSize, usedLength, mostRecords, recordSize, edition}
 use Rattle.records.specs.Buffer.{distanceAt, countAt, editionAt, broken}
 use Rattle.records.proofs.RecordLaws.{number-behind}

@@ -7,8 +7,8 @@ use Prim.Native.Nat.{ℕ, _+_, _-_, _*_, _≤_}
 use native.Mathlib.Omega.{arith}
 use lib.ListN.{length, take, drop, length-take, take-append-drop}
 use lib.Seq.{take-add, drop-drop}
-use Rattle.binary64.specs.Bytes.{AreBytes, bytesOf}
-use Rattle.binary64.proofs.Numbers.{bytesOf-numberAt}
+use Rattle.octets.specs.Bytes.{AreBytes, bytesOf}
+use Rattle.octets.proofs.Numbers.{bytesOf-numberAt}
 use Rattle.records.specs.Layout.{bytesAt, trailer}
 use Rattle.records.specs.Buffer.{distanceAt, countAt, editionAt, broken}
 use Rattle.records.proofs.Trailer.{sound-facts, trailer-read, trailer-sound}

@@ -7,7 +7,7 @@ use native.Mathlib.Nat.{mul-suc, le-of-suc-le-suc, not-suc-le-zero}
 use native.Mathlib.Omega.{arith}
 use borrow.Author.Tests.{lt-ltb, le-ltb}
 use lib.ListN.{getD, drop}
-use Rattle.binary64.specs.Bytes.{numberAt}
+use Rattle.octets.specs.Bytes.{numberAt}
 use Rattle.records.specs.Layout.{figuresIn, recordAt, lineOf, firstLines, figuresEnd}
 use Rattle.records.specs.Lines.{figure, figureOf, outranks, worstOf}
 use Rattle.records.proofs.RecordLaws.{numberAt-drop, number-part, length-firstLines}

@@ -9,9 +9,9 @@ use native.Mathlib.Nat.{mul-suc}
 use native.Mathlib.Omega.{arith}
 use lib.ListN.{length, getD, take, length-append}
 use lib.Seq.{take-all}
-use Rattle.binary64.specs.Bytes.{bytesOf, splice}
-use Rattle.binary64.proofs.Numbers.{length-bytesOf}
-use Rattle.binary64.proofs.Splice.{splice-join}
+use Rattle.octets.specs.Bytes.{bytesOf, splice}
+use Rattle.octets.proofs.Numbers.{length-bytesOf}
+use Rattle.octets.proofs.Splice.{splice-join}
 use Rattle.records.specs.Layout.{figureBytes, recordOf, trailer, recordSize, edition}
 use Rattle.records.specs.Buffer.{written}
 

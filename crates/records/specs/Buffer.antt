@@ -5,7 +5,7 @@ use mathlib.Core.List.{List, _++_}
 use Prim.Native.Nat.{ℕ, _+_, _-_, _*_}
 use lib.Dec.{ltb, eqb}
 use lib.ListN.{length}
-use Rattle.binary64.specs.Bytes.{numberAt, splice}
+use Rattle.octets.specs.Bytes.{numberAt, splice}
 use Rattle.records.specs.Layout.{Line, recordOf, trailer, firstLines, trailerSize, usedLength, mostRecords, recordSize, edition}
 
 -- ── the trailer that ends at the used length

@@ -5,7 +5,7 @@ use mathlib.Core.List.{List, [], _∷_}
 use Prim.Native.Nat.{ℕ, _+_}
 use lib.Dec.{eqb}
 use lib.ListN.{take, drop, getD}
-use Rattle.binary64.specs.Bytes.{bytesOf}
+use Rattle.octets.specs.Bytes.{bytesOf}
 use Rattle.records.specs.Layout.{Line, recordSize}
 
 -- bytes of the case, or the figure of a place from 0

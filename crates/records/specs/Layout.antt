@@ -3,7 +3,7 @@
 use mathlib.Core.List.{List, [], _∷_, _++_}
 use Prim.Native.Nat.{ℕ, zero, suc, _+_, _*_}
 use lib.ListN.{length, take, drop}
-use Rattle.binary64.specs.Bytes.{bytesOf, numberAt}
+use Rattle.octets.specs.Bytes.{bytesOf, numberAt}
 
 -- A line, the paper's term: a case and its figures.
 pub record Line : Type 0 where

@@ -2,14 +2,14 @@
 ghost use mathlib.Core.Path.{_≡_};
 ghost use Prim.Native.Nat.{_+_, _*_, _≤_, _<_};
 ghost use lib.ListN.{length};
-ghost use Rattle.binary64.specs.Bytes.{splice};
+ghost use Rattle.octets.specs.Bytes.{splice};
 ghost use Rattle.records.specs.Layout.{figureBytes, trailer, lineOf, usedLength, mostRecords, figuresEnd, recordSize, edition};
 ghost use Rattle.records.specs.Buffer.{countAt, broken, written};
-use binary64::bytes::put_bytes;
-use binary64::bytes::put_u32;
-use binary64::bytes::put_u64;
-use binary64::bytes::u32_at;
-use binary64::bytes::u64_at;
+use octets::put_bytes;
+use octets::put_u32;
+use octets::put_u64;
+use octets::u32_at;
+use octets::u64_at;
 
 pub mod search;
 

@@ -5,8 +5,8 @@ ghost use lib.ListN.{length};
 ghost use Rattle.records.specs.Layout.{firstLines, figuresEnd, recordSize};
 ghost use Rattle.records.specs.Lines.{held, worstOf};
 use crate::RECORD_SIZE;
-use binary64::bytes::u32_at;
-use binary64::bytes::u64_at;
+use octets::u32_at;
+use octets::u64_at;
 
 // Whether one of n records is the same filing as the case. Dossiers differ sooner than heads, so they are compared first.
 pub fn is_held(archive: &[u8], n: usize, case: &[u8]) -> bool

@@ -4,7 +4,7 @@
 use mathlib.Core.Path.{_≡_, refl}
 use mathlib.Core.List.{List, map}
 use lib.Ieee.{ofBits, add, le}
-use Rattle.binary64.specs.Bytes.{bytesOf, numberAt}
+use Rattle.octets.specs.Bytes.{bytesOf, numberAt}
 use Rattle.binary64.specs.Pattern.{isUnsignedFinite}
 use Rattle.binary64.specs.Quantity.{whole}
 use Rattle.scenario.specs.Case.{kindAt, notSixtyFour, kindUnknown, rowUnknown, routeNotAllowed, userNotAllowed, countNotAllowed, notNumber, notZeroBytes, overLimit, sumFrom, sumWithin, summedOf, sumOver, refusalOf}

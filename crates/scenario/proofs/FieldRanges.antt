@@ -14,7 +14,7 @@ use lib.Dec.{eqb}
 use lib.Ieee.{Float}
 use lib.ListN.{length, getD}
 use borrow.Author.Tests.{not-false, eqb-true, eqb-false, eq-eqb}
-use Rattle.binary64.proofs.Bools.{both}
+use Rattle.octets.proofs.Bools.{both}
 use Rattle.scenario.specs.Case.{rowOf, userOf, countOf, patternAt, ofSix, quantityOf, Range, _to_, within, Listing, unlisted, upTo, ownUpTo, Kind, kinds, noKind, kindAt, rowUnknown, routeNotAllowed, userNotAllowed, countNotAllowed, sumFrom}
 use Rattle.scenario.specs.Ranges.{Between, ByRow, UpTo, ZeroBytes, OwnUpTo, AtMost1, NoSum, IsKind, Allows, allows, allowsNothing, allowedBy, Route}
 use Rattle.scenario.proofs.KindTable.{inside}

@@ -12,7 +12,7 @@ use lib.ListN.{length, getD, List·getD-eq-default}
 use borrow.Author.Tests.{leb-true, le-leb, eqb-true, eqb-false, ne-eqb}
 use Rattle.scenario.specs.Case.{Range, within, Kind, kinds, noKind, kindAt}
 use Rattle.scenario.specs.Ranges.{Between, IsKind}
-use Rattle.binary64.proofs.Bools.{both}
+use Rattle.octets.proofs.Bools.{both}
 
 pub inside : (r : Range) (n : ℕ) → (within r n ≡ true → Between (r .from) (r .to) n) × (Between (r .from) (r .to) n → within r n ≡ true)
 inside r n = (

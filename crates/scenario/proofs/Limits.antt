@@ -17,7 +17,7 @@ use Rattle.scenario.specs.Case.{exactOf, Listing, unlisted, Kind, kinds,
 use Rattle.scenario.specs.Patterns.{at, IsLimit, limitPattern, limitPatterns, addFaults, faultsOf}
 use Rattle.scenario.specs.declared.quantities.Faults.{Faults}
 use Rattle.scenario.proofs.Six.{six-same}
-use Rattle.binary64.proofs.Bools.{both, every, every-at}
+use Rattle.octets.proofs.Bools.{both, every, every-at}
 
 -- ── the rule of a limit, as a test
 

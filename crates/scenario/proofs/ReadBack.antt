@@ -3,8 +3,8 @@ use mathlib.Core.Path.{_≡_, refl, _∙_}
 use mathlib.Core.List.{List}
 use Prim.Native.Nat.{ℕ, _^_, _<_}
 use native.Mathlib.Nat.{mod-eq-of-lt}
-use Rattle.binary64.specs.Bytes.{bytesOf, numberOf, numberAt}
-use Rattle.binary64.proofs.Numbers.{numberOf-bytesOf}
+use Rattle.octets.specs.Bytes.{bytesOf, numberOf, numberAt}
+use Rattle.octets.proofs.Numbers.{numberOf-bytesOf}
 use Rattle.scenario.specs.Case.{kindOf, rowOf, routeOf, userOf, countOf, dossierOf, patternAt}
 use Rattle.scenario.specs.Builder.{caseBytes}
 

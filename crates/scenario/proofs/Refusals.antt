@@ -16,7 +16,7 @@ use Rattle.scenario.specs.Patterns.{patternsOf, at}
 use Rattle.scenario.specs.declared.Head.{Head}
 use Rattle.scenario.specs.Decoding.{headOf, caseOf, decoded}
 use Rattle.scenario.specs.declared.Decoded.the-variants.{Accepted, Refused}
-use Rattle.binary64.proofs.Bools.{both}
+use Rattle.octets.proofs.Bools.{both}
 
 pub first-of-is-first : (cs : List Condition) → IsFirst cs (firstOf cs)
 first-of-is-first [] = none

@@ -6,7 +6,7 @@ use native.Mathlib.Omega.{arith}
 use borrow.Author.Tests.{not-false}
 use Rattle.binary64.specs.Pattern.{isUnsignedFinite}
 use Rattle.scenario.specs.Case.{anyOfSix, notNumber, anyNotNumber}
-use Rattle.binary64.proofs.Bools.{neither}
+use Rattle.octets.proofs.Bools.{neither}
 
 pub none-of-six : (p : ℕ → Bool) → anyOfSix p ≡ false → (i : ℕ) → i < 6 → p i ≡ false
 none-of-six p e i h =

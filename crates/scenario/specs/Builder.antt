@@ -1,7 +1,7 @@
 -- A case written by its fields, and patterns of some numbers, for examples.
 use mathlib.Core.List.{List, _∷_, _++_}
 use Prim.Native.Nat.{ℕ}
-use Rattle.binary64.specs.Bytes.{bytesOf}
+use Rattle.octets.specs.Bytes.{bytesOf}
 
 -- kind, row, route, user, T, dossier number, and the patterns of a to f
 unfoldable pub caseBytes : ℕ → ℕ → ℕ → ℕ → ℕ → ℕ → ℕ → ℕ → ℕ → ℕ → ℕ → ℕ → List ℕ

@@ -6,7 +6,7 @@ use Prim.Native.Nat.{ℕ, _+_, _*_}
 use lib.Dec.{leb, eqb}
 use lib.Ieee.{Float, binary64, ofBits, add, le}
 use lib.ListN.{length, getD}
-use Rattle.binary64.specs.Bytes.{numberAt}
+use Rattle.octets.specs.Bytes.{numberAt}
 use Rattle.binary64.specs.Pattern.{isUnsignedFinite}
 use Rattle.binary64.specs.Quantity.{whole, one}
 use Rattle.scenario.specs.Refusal.{Condition, _when_, firstOf}

@@ -17,8 +17,8 @@ pub fn head_at(case: &[u8]) -> Head
         row: case[1],
         route: case[2],
         user: case[3],
-        count: binary64::bytes::u32_at(case, 4),
-        dossier: binary64::bytes::u64_at(case, 8),
+        count: octets::u32_at(case, 4),
+        dossier: octets::u64_at(case, 8),
     }
 }
 

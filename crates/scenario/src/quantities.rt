@@ -8,9 +8,9 @@ ghost use Rattle.scenario.specs.Refusal.{firstOf};
 ghost use Rattle.scenario.specs.Case.{quantityOf, anyNotNumber, sumOver, quantityRefusals};
 ghost use Rattle.scenario.specs.Patterns.{patternsOf, at, addFaults, faultsOf};
 use crate::kinds::limits_of;
-use binary64::bytes::u64_at;
 use binary64::pattern::is_unsigned_finite;
 use binary64::pattern::quantity_of;
+use octets::u64_at;
 
 pub fn patterns_at(case: &[u8]) -> [u64; 6]
     requires { ⌜ length (now case) ≡ 64 ⌝ }

@@ -4,7 +4,7 @@ use native.Mathlib.Omega.{arith}
 use borrow.Author.Needs.{needs}
 use lib.ListN.{length, take}
 use lib.Seq.{length-take-le}
-use Rattle.binary64.specs.Bytes.{splice}
+use Rattle.octets.specs.Bytes.{splice}
 use Rattle.listing.proofs.RecordLines.{take-bytes}
 use Rattle.listing.proofs.Whole.{listing-at-most, read-decides}
 use Rattle.listing.proofs.print_input.Statement.{statement}

@@ -3,7 +3,7 @@ use mathlib.Core.Path.{_≡_, refl, sym, ap, _∙_}
 use mathlib.Core.Bool.{false}
 use native.Mathlib.Omega.{arith}
 use borrow.Author.Needs.{needs}
-use Rattle.binary64.specs.Bytes.{splice}
+use Rattle.octets.specs.Bytes.{splice}
 use Rattle.listing.specs.Listing.{codes, header, refusal, refused}
 use Rattle.listing.proofs.Whole.{accepted-facts, listing-refused, length-refused, length-accepted, listing-written}
 use Rattle.listing.proofs.put_listing.Statement.{statement}

@@ -5,7 +5,7 @@ use native.Mathlib.Omega.{arith}
 use lib.ListN.{take}
 use lib.Seq.{length-take-le}
 use borrow.Author.Needs.{needs}
-use Rattle.natural.specs.Value.{value}
+use Rattle.limbs.specs.Value.{value}
 use Rattle.natural.specs.Ceiling.{ceiling}
 use Rattle.product.proofs.Limbs.{rounded}
 use Rattle.product.proofs.finish.Statement.{statement}

@@ -5,7 +5,7 @@ use native.Mathlib.Nat.{add-zero, sub-zero}
 use native.Mathlib.Omega.{arith}
 use borrow.Author.Needs.{needs}
 use lib.ListN.{length}
-use Rattle.binary64.specs.Bytes.{bytesOf, splice}
+use Rattle.octets.specs.Bytes.{bytesOf, splice}
 use Rattle.cases.proofs.FieldLaws.{put-step, put-end, left-step, left-end}
 use Rattle.cases.proofs.fields.put.Statement.{statement}
 use Rattle.cases.proofs.fields.put.Tie as tie

@@ -2,7 +2,7 @@
 use native.Mathlib.Omega.{arith}
 use borrow.Author.Needs.{needs}
 use borrow.Author.Tests.{leb-true}
-use Rattle.binary64.proofs.Bools.{both}
+use Rattle.octets.proofs.Bools.{both}
 use Rattle.cases.specs.Numbers.{digitOf}
 use Rattle.cases.proofs.numbers.digit.Statement.{statement}
 use Rattle.cases.proofs.numbers.digit.Tie as tie

@@ -4,7 +4,8 @@ use borrow.Author.Needs.{needs}
 use native.Mathlib.Omega.{arith}
 use lib.ListN.{length-set}
 use lib.Seq.{length-take-le, length-front}
-use Rattle.chain.proofs.Product.{front-stays, grow-none, grow-one, grow-two}
+use Rattle.limbs.proofs.Value.{front-stays}
+use Rattle.chain.proofs.Product.{grow-none, grow-one, grow-two}
 use Rattle.chain.proofs.products.grow.Statement.{statement}
 use Rattle.chain.proofs.products.grow.Tie as tie
 

@@ -1,7 +1,7 @@
 -- By what `is_zero` answers.
 use mathlib.Core.Path.{sym, _∙_}
 use borrow.Author.Needs.{needs}
-use Rattle.natural.proofs.Held.{flag-zero, flag-some}
+use Rattle.limbs.proofs.Held.{flag-zero, flag-some}
 use Rattle.chain.proofs.rounding.sticky.Statement.{statement}
 use Rattle.chain.proofs.rounding.sticky.Tie as tie
 

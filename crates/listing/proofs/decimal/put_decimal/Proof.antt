@@ -4,7 +4,7 @@ use Prim.Native.Nat.{_+_, _/_, _<_}
 use native.Mathlib.Omega.{arith}
 use borrow.Author.Needs.{needs}
 use lib.ListN.{length, length-set}
-use Rattle.binary64.specs.Bytes.{splice}
+use Rattle.octets.specs.Bytes.{splice}
 use Rattle.listing.specs.Decimal.{decimal}
 use Rattle.listing.proofs.DecimalText.{length-more, decimal-some}
 use Rattle.listing.proofs.Stores.{digit-stored, first-stored}

@@ -4,7 +4,7 @@ use mathlib.Core.List.{[], _∷_}
 use Prim.Native.Nat.{_+_, _-_, _≤_}
 use native.Mathlib.Omega.{arith}
 use lib.ListN.{length, getD, drop, length-set}
-use Rattle.binary64.specs.Bytes.{splice}
+use Rattle.octets.specs.Bytes.{splice}
 use Rattle.listing.specs.Decimal.{decimal}
 use Rattle.listing.specs.Listing.{lineFeed, columnsText}
 use Rattle.listing.proofs.Stores.{store-one}

@@ -3,8 +3,8 @@ use mathlib.Core.Path.{_≡_, refl, sym, ap, _∙_}
 use Prim.Native.Nat.{_+_, _*_, _-_, _≤_}
 use native.Mathlib.Omega.{arith}
 use lib.ListN.{length}
-use Rattle.binary64.specs.Bytes.{splice}
-use Rattle.binary64.proofs.Splice.{splice-nil, splice-join}
+use Rattle.octets.specs.Bytes.{splice}
+use Rattle.octets.proofs.Splice.{splice-nil, splice-join}
 use Rattle.records.specs.Layout.{lineOf, firstLines}
 use Rattle.records.proofs.LinesFrom.{record-inside}
 use Rattle.listing.specs.Listing.{lineText, linesText}

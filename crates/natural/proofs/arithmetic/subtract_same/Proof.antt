@@ -4,8 +4,8 @@ use Prim.Native.Nat.{_-_, _≤_}
 use native.Mathlib.Omega.{arith}
 use lib.ListN.{length, take, length-set}
 use lib.Seq.{take-all}
-use Rattle.natural.specs.Value.{value}
-use Rattle.natural.proofs.Value.{value-next}
+use Rattle.limbs.specs.Value.{value}
+use Rattle.limbs.proofs.Value.{value-next}
 use Rattle.natural.proofs.Carry.{Borrowed, start, borrowed-again, borrowed-end}
 use Rattle.natural.proofs.arithmetic.subtract_same.Statement.{statement}
 use Rattle.natural.proofs.arithmetic.subtract_same.Tie as tie
