@@ -1,3 +1,2 @@
-// IEEE 754 binary64 quantities by their 64-bit patterns, and little-endian numbers in bytes.
-// specs/ says what a pattern's parts, its exact value and a number in bytes are.
+// IEEE 754 binary64 quantities by their 64-bit patterns. specs/ says what a pattern's parts and its exact value are.
 pub mod pattern;

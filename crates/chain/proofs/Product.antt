@@ -1,6 +1,6 @@
 -- Laws on products.
 --   grow-none, grow-one, grow-two   `grow`: the carry takes no limb, or one or two, the top one not 0
-use mathlib.Core.Path.{_≡_, sym, ap, _∙_}
+use mathlib.Core.Path.{_≡_, ap, _∙_}
 use mathlib.Core.List.{List, _++_}
 use Prim.Native.Nat.{ℕ, _+_, _-_, _*_, _/_, _%_, _^_, _≤_, _<_}
 use native.Mathlib.Omega.{arith}

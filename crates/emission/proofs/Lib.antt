@@ -6,4 +6,5 @@ pub mod Positive
 pub mod FigureSize
 pub mod Demand2
 pub mod Examples
+pub mod Routes
 pub mod Bounds

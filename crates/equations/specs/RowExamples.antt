@@ -1,6 +1,6 @@
 -- Cases worked by pencil, beside the paper's own P1 to P10 (crate emission): each row of the default tables, and row 0 of each kind.
--- No two quantities of a case are equal. Each row of kind 3 is worked by both users; with row 0 as with the paper's rows each quantity and T have two
--- values, of which the second may be one of P1 to P10: whatever were left out of an equation, or taken for another, a case would show it.
+-- No two quantities of a case are equal. Each row of kind 3 is worked by both users; with row 0 T stands at both its ends, and there as with the paper's
+-- rows each quantity has two values, of which the second may be one of P1 to P10: whatever were left out of an equation, or taken for another, a case would show it.
 use mathlib.Core.Path.{_≡_}
 use mathlib.Core.List.{List, [], _∷_}
 use Prim.Native.Nat.{ℕ, _*_}
@@ -41,8 +41,8 @@ rowExamples =
     ∷ (caseBytes 1 6 1 0 0 7 five sixteen quarter 0 0 0 gives kg 6510 1825)
     ∷ (caseBytes 1 7 1 0 0 7 five sixteen quarter 0 0 0 gives kg 735000 9125)
     -- row 0: 4000·c·d·(a + b)/T
-    ∷ (caseBytes 1 0 1 0 100 7 half eighth quarter sixteen 0 0 gives kg 100 1)
-    ∷ (caseBytes 1 0 1 0 365 7 sixteen five three-quarters half 0 0 gives kg 31500 365)
+    ∷ (caseBytes 1 0 1 0 31 7 half eighth quarter sixteen 0 0 gives kg 10000 31)
+    ∷ (caseBytes 1 0 1 0 36500 7 sixteen five three-quarters half 0 0 gives kg 31500 36500)
     -- kind 2, a 1/4, c 1/8: A·V·R/(8·L)
     ∷ (caseBytes 2 1 1 0 0 7 quarter 0 eighth 0 0 0 gives kg 19152 2920000)
     ∷ (caseBytes 2 2 1 0 0 7 quarter 0 eighth 0 0 0 gives kg 7056 292000)
@@ -52,8 +52,8 @@ rowExamples =
     ∷ (caseBytes 2 6 1 0 0 7 quarter 0 eighth 0 0 0 gives kg 18228 146000)
     ∷ (caseBytes 2 7 1 0 0 7 quarter 0 eighth 0 0 0 gives kg 186200 73000)
     -- row 0: 4·c·d·e·f·a/T
-    ∷ (caseBytes 2 0 1 0 40 7 half 0 quarter sixteen five hundred gives kg 100 1)
-    ∷ (caseBytes 2 0 1 0 365 7 eighth 0 three-quarters five quarter thousand gives kg 46875 36500)
+    ∷ (caseBytes 2 0 1 0 31 7 half 0 quarter sixteen five hundred gives kg 4000 31)
+    ∷ (caseBytes 2 0 1 0 36500 7 eighth 0 three-quarters five quarter thousand gives kg 46875 3650000)
     -- kind 3 by professionals, a 1/4: A·V·R·N times 3 over 400,000; then by others, 5 over 400,000
     ∷ (caseBytes 3 1 1 1 0 7 quarter 0 0 0 0 0 gives kg 57456 40000000)
     ∷ (caseBytes 3 2 1 1 0 7 quarter 0 0 0 0 0 gives kg 21168 4000000)
@@ -70,17 +70,17 @@ rowExamples =
     ∷ (caseBytes 3 6 1 2 0 7 quarter 0 0 0 0 0 gives kg 273420 4000000)
     ∷ (caseBytes 3 7 1 2 0 7 quarter 0 0 0 0 0 gives kg 931000 400000)
     -- row 0: d·e·f·a·T times 3 over 100,000, and 5
-    ∷ (caseBytes 3 0 1 1 3 7 half 0 0 sixteen five hundred gives kg 36 100)
-    ∷ (caseBytes 3 0 1 2 3 7 half 0 0 sixteen five hundred gives kg 60 100)
+    ∷ (caseBytes 3 0 1 1 1 7 half 0 0 sixteen five hundred gives kg 12 100)
+    ∷ (caseBytes 3 0 1 2 1 7 half 0 0 sixteen five hundred gives kg 20 100)
     ∷ (caseBytes 3 0 1 1 100 7 eighth 0 0 five quarter thousand gives kg 46875 100000)
     ∷ (caseBytes 3 0 1 2 100 7 eighth 0 0 five quarter thousand gives kg 78125 100000)
     -- kind 4: 0.2·a·(1 − b)·c/260, and by T with row 0
     ∷ (caseBytes 4 1 1 0 0 7 five quarter eighth 0 0 0 gives kg 9375 26000000)
-    ∷ (caseBytes 4 0 1 0 100 7 sixteen quarter half 0 0 0 gives kg 12 1000)
-    ∷ (caseBytes 4 0 1 0 365 7 five three-quarters eighth 0 0 0 gives kg 3125 36500000)
+    ∷ (caseBytes 4 0 1 0 1 7 sixteen quarter half 0 0 0 gives kg 12 10)
+    ∷ (caseBytes 4 0 1 0 366 7 five three-quarters eighth 0 0 0 gives kg 3125 36600000)
     -- kind 5: 1000·a·b·c/T, with d for air, e for soil
-    ∷ record { case = caseBytes 5 0 1 0 100 7 five three-quarters quarter eighth thirty-second 0; water = kg 9375 1000; air = kg 46875 10000; soil = kg 1171875 1000000 }
-    ∷ record { case = caseBytes 5 0 1 0 365 7 sixteen eighth half thirty-second quarter 0; water = kg 1000 365; air = kg 125 730; soil = kg 500 365 }
+    ∷ record { case = caseBytes 5 0 1 0 1 7 five three-quarters quarter eighth thirty-second 0; water = kg 9375 10; air = kg 46875 100; soil = kg 1171875 10000 }
+    ∷ record { case = caseBytes 5 0 1 0 366 7 sixteen eighth half thirty-second quarter 0; water = kg 1000 366; air = kg 125 732; soil = kg 500 366 }
     -- kind 6, a 1/4, b 1/8: 10·H·M·G/32
     ∷ (caseBytes 6 1 1 0 0 7 quarter eighth 0 0 0 0 gives kg 852 3200)
     ∷ (caseBytes 6 2 1 0 0 7 quarter eighth 0 0 0 0 gives kg 12 32)
@@ -92,7 +92,7 @@ rowExamples =
     ∷ (caseBytes 6 0 1 0 0 7 quarter three-quarters 0 hundred five half gives kg 46875 100)
     -- kind 7: a·c·b·(1 − d)·e times 2000 over 3, and by T with row 0
     ∷ (caseBytes 7 1 1 0 0 7 three-quarters eighth five quarter thirty-second 0 gives kg 1875 256)
-    ∷ (caseBytes 7 0 1 0 3 7 half quarter five three-quarters eighth 0 gives kg 390625 10000)
+    ∷ (caseBytes 7 0 1 0 1 7 half quarter five three-quarters eighth 0 gives kg 390625 30000)
     ∷ (caseBytes 7 0 1 0 100 7 eighth half unit quarter thirty-second 0 gives kg 3125 32)
     ∷ []
 

@@ -8,7 +8,7 @@
 --   value-below, value-small                         sizes
 --   front-stays, stays-above                         limbs that are not written
 --   value-injective                                  what contracts on `value` say of each limb
--- What a loop does to a value is in Carry, Division and Held.
+-- What limbs hold is in Held; what a loop does to a value is in Carry and Division of crate natural.
 use mathlib.Core.Path.{_≡_, refl, sym, ap, _∙_}
 use mathlib.Core.List.{List, [], _∷_, _++_}
 use Prim.Native.Nat.{ℕ, zero, suc, _+_, _-_, _*_, _/_, _%_, _^_, _≤_, _<_}

@@ -1,11 +1,11 @@
 -- Laws of the first refusal that holds.
 -- Of any list of conditions: `first-of-is-first`, `first-is-first-of`, `first-of-append`, `first-of-some`, `first-of-none` (one list after another),
 -- `none-holds` (where the first is 0).
--- Of a case: `refusal-order`, `refusal-of-length`, `refusal-of-fields`, `numbers-accepted`, `decoded-accepted`, `decoded-refused`.
+-- Of a case: `refusal-order`, `refusal-numbers`, `refusal-of-length`, `refusal-of-fields`, `numbers-accepted`, `decoded-accepted`, `decoded-refused`.
 -- What a case without refusal satisfies is in `Ranges`.
 use mathlib.Core.Path.{_≡_, refl, subst}
 use mathlib.Core.Bool.{Bool, true, false, not, cond}
-use mathlib.Core.List.{List, [], _∷_, _++_}
+use mathlib.Core.List.{List, [], _∷_, _++_, map}
 use Prim.Native.Nat.{ℕ, zero, suc}
 use lib.Dec.{eqb}
 use lib.ListN.{length, getD}
@@ -67,6 +67,10 @@ none-holds (c ∷ cs) h e =
 pub refusal-order : (b : List ℕ) (n : ℕ) → (refusalOf b ≡ n → IsFirst (refusals b) n) × (IsFirst (refusals b) n → refusalOf b ≡ n)
 unfolding refusalOf
 refusal-order b n = (λ (e : firstOf (refusals b) ≡ n). subst (IsFirst (refusals b)) e (first-of-is-first (refusals b)), first-is-first-of)
+
+-- the numbers in the list are the paper's, whatever the case
+pub refusal-numbers : (b : List ℕ) → map (λ (c : Condition). c .number) (refusals b) ≡ 1 ∷ 2 ∷ 3 ∷ 4 ∷ 5 ∷ 6 ∷ 7 ∷ 8 ∷ 9 ∷ 10 ∷ 11 ∷ []
+refusal-numbers b = refl
 
 pub refusal-of-length : (b : List ℕ) → (length b ≡ 64 → ⊥) → refusalOf b ≡ 1
 unfolding refusalOf notSixtyFour
