@@ -2,7 +2,7 @@
 -- Paper 01, 'The archive', 'From the state, after those, in this order'. Held and worst are the ledger's own, on the lines that the bytes hold.
 use mathlib.Core.Bool.{Bool, cond}
 use mathlib.Core.List.{List, [], _∷_, _++_}
-use Prim.Native.Nat.{ℕ, _+_, _*_}
+use Prim.Native.Nat.{ℕ, _+_}
 use lib.Dec.{ltb, leb, eqb}
 use lib.ListN.{length}
 use Rattle.octets.specs.Bytes.{splice}

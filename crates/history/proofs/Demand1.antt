@@ -94,7 +94,7 @@ returned : (call : ArchiveCall) (u : ℕ) (f : List ℕ) → Returned call (arch
 unfolding emptying filing showPart naming
 returned (empties k) u f = rw (way-refusal direct-lawful (empties k) u f) (k .kept .0)
 returned (files k) u f = rw (way-refusal direct-lawful (files k) u f) (k .kept .0)
-returned (shows k t s) u f = rw (way-refusal direct-lawful (shows k t s) u f) (k .kept)
+returned (shows k t s) u f = rw (way-refusal direct-lawful (shows k t s) u f) (refl, k .kept)
 returned (names k) u f = rw (way-refusal direct-lawful (names k) u f) (k .kept .0)
 
 pub refusals-in-order : (call : ArchiveCall) (u : ℕ) (f : List ℕ) → SeenInOrder (archiveSeen call u f) × Returned call (archiveSeen call u f .answer .refusal)

@@ -1,5 +1,5 @@
 -- That there are such calls, runs and histories: each request can be made on any buffer at any used length, with the answer and the bytes of its effect (`direct-can`),
--- so every list of requests has a run (`run-can`), and a history from every buffer of 16 bytes or more (`history-can`). Of any way of which this is so: `run-by`, `history-by`.
+-- so every list of requests has a history from every buffer of 16 bytes or more (`history-can`). Of any way of which this is so: `run-by`, `history-by`.
 use mathlib.Core.Path.{_≡_, refl}
 use mathlib.Core.List.{List, [], _∷_}
 use Prim.Native.Nat.{ℕ, _≤_}
@@ -88,9 +88,6 @@ module _ (κ : Lft) where
       gave = e;
     };
   }
-
-  pub run-can : (cs : List Request) → AllFed cs → (b : List ℕ) (u : ℕ) → RunOf direct b u cs
-  run-can = run-by direct-can
 
   pub history-can : (cs : List Request) → AllFed cs → (b : List ℕ) → 16 ≤ length b → HistoryOf direct b cs
   history-can = history-by direct-can

@@ -3,6 +3,8 @@
 -- of the lines that the ledger then has, in plain bytes; `demand3` says that the buffer holds it.
 use mathlib.Core.Path.{_≡_, refl}
 use mathlib.Core.List.{[], map}
+use Prim.Native.Nat.{ℕ}
+use native.Mathlib.Omega.{arith}
 use lib.Ieee.{ofBits, toBits, add, le}
 use Rattle.octets.specs.Bytes.{bytesOf, numberOf, numberAt}
 use Rattle.binary64.specs.Pattern.{isUnsignedFinite}
@@ -30,12 +32,14 @@ infixr 1 _and_
 _and_ : {A B : Type 0} → A → B → A × B
 a and b = (a, b)
 
--- also of the case that is refused, whose figures are zeros
+-- also of the case that is refused, whose figures are zeros; of what is no case any figures are fed
 pub worked-fed : AllFed (map (λ (t : Told). t .call) workedHistory)
 unfolding workedHistory caseBytes bytesOf figuresOf exactValues emitted chain total cities cityAt hygienes hygieneAt caseOfPatterns caseWith headOf numberAt numberOf refusalOf notSixtyFour kindUnknown rowUnknown routeNotAllowed userNotAllowed countNotAllowed notNumber notZeroBytes overLimit sumFrom sumWithin summedOf sumOver kinds kindAt isUnsignedFinite whole wholeAt add le ofBits toBits ceiling
 worked-fed =
     tt and tt and tt and tt
-    and (λ e. refl) and (λ e. refl) and (λ e. refl) and (λ e. refl) and (λ e. refl) and (λ e. refl) and (λ e. refl) and (λ e. refl) and (λ e. refl) and (λ e. refl) and (λ e. refl)
+    and (λ e. refl)
+    and (λ e. (let z : _≡_ {A = ℕ} 1 0 = e .case-within in absurd (omega (arith, z))))
+    and (λ e. refl) and (λ e. refl) and (λ e. refl) and (λ e. refl) and (λ e. refl) and (λ e. refl) and (λ e. refl) and (λ e. refl) and (λ e. refl) and (λ e. refl)
     and tt and tt and tt and tt and tt and tt and tt and tt and tt and tt
     and (λ e. refl) and (λ e. refl)
     and tt and tt

@@ -1,7 +1,7 @@
 -- The calls of `archive`, each as it is seen. A call of work out is `WorkOutCall` of emission/proofs/Demand2.
 use mathlib.Core.Path.{_≡_}
 use mathlib.Core.List.{List, []}
-use Prim.Native.Nat.{ℕ, _+_, _*_}
+use Prim.Native.Nat.{ℕ, _+_}
 use denote.Ref.{now}
 use Rattle.emission.specs.Called.{Called, ends}
 use Rattle.emission.proofs.Demand2.{WorkOutCall}
@@ -74,7 +74,7 @@ Returned (empties k) r = k .result ≡ accepted r (Used 16) (Refused r)
 Returned (files k) r =
     let n = countAt (now (k .args .0)) (k .args .1 .0) in
     k .result ≡ accepted r (Filed n (usedLength recordSize (n + 1))) (NotFiled r)
-Returned (shows k t s) r = now (k .result) ≡ accepted r (recordAt recordSize (now (k .args .0)) (k .args .1 .1 .0)) []
+Returned (shows k t s) r = (t .result ≡ r) × (now (k .result) ≡ accepted r (recordAt recordSize (now (k .args .0)) (k .args .1 .1 .0)) [])
 Returned (names k) r = k .result ≡ accepted r (Number (worstOf (k .args .1 .1 .0) (linesIn (now (k .args .0)) (k .args .1 .0)))) (NotNamed r)
 
 -- work out, called on the case c, gave the figures f

@@ -1,10 +1,13 @@
 -- The calls of the C interface, each as it is seen: the buffer and the variables that the caller lends, before and after.
 use mathlib.Core.Path.{_≡_}
 use mathlib.Core.List.{List, [], _∷_}
-use Prim.Native.Nat.{ℕ}
+use Prim.Native.Nat.{ℕ, _+_, _*_}
 use denote.Ref.{now}
 use Rattle.emission.specs.Called.{Called, ends}
-use Rattle.records.specs.Layout.{bytesAt}
+use Rattle.records.specs.Layout.{usedLength, recordSize, bytesAt}
+use Rattle.records.specs.Lines.{worstOf}
+use Rattle.records.specs.Buffer.{countAt, linesIn}
+use Rattle.archive.specs.Conditions.{accepted}
 use Rattle.archive.specs.Offers.{offer}
 use Rattle.archive.specs.Answers.{Answer, emptied, filed, shown, named}
 use Rattle.csorvelin.proofs.csorvelin_work_out.Kinds as work-out-kinds
@@ -51,6 +54,16 @@ cSeen (shows k) u f =
     let b = now (k .args .0) in
     seeing (show (k .args .1 .1 .0)) b (k .args .1 .0) (shown (k .result) (bytesAt b (now (ends k .1 .1 .1 .0)) (now (ends k .1 .1 .1 .1 .0)))) (now (ends k .0))
 cSeen (names k) u f = seeing (worst (k .args .1 .1 .0)) (now (k .args .0)) (k .args .1 .0) (named (k .result) (now (ends k .1 .1 .1 .0))) (now (ends k .0))
+
+-- the result, and what stands in the variables: without a refusal, and beside the refusal r
+abbrev pub CReturned : CCall → ℕ → Type 0
+CReturned (empties k) r = (k .result ≡ r) × (now (ends k .1 .0) ≡ accepted r 16 0)
+CReturned (files k) r =
+    let u = now (k .args .1 .0) in
+    let n = countAt (now (k .args .0)) u in
+    (k .result ≡ r) × (now (ends k .1 .1 .1 .0) ≡ accepted r n 0) × (now (ends k .1 .0) ≡ accepted r (usedLength recordSize (n + 1)) u)
+CReturned (shows k) r = (k .result ≡ r) × (now (ends k .1 .1 .1 .0) ≡ accepted r (recordSize * k .args .1 .1 .0) 0) × (now (ends k .1 .1 .1 .1 .0) ≡ accepted r recordSize 0)
+CReturned (names k) r = (k .result ≡ r) × (now (ends k .1 .1 .1 .0) ≡ accepted r (worstOf (k .args .1 .1 .0) (linesIn (now (k .args .0)) (k .args .1 .0))) 0)
 
 pub record CWorkedOut (c f : List ℕ) : Type 0 where
   pub call : CWorkOutCall

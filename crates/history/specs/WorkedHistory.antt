@@ -48,6 +48,8 @@ workedHistory =
     -- no compartment is told before no record
     ∷ (worst 5 tells named 12 0)
     ∷ (file (offer (sanitary 7 0)) (four 76923077 0 0 0) tells filed 0 0 112)
+    -- what is no case is told so, whatever figures come with it
+    ∷ (file (offer []) (9 ∷ []) tells filed 1 0 112)
     -- P10: another b is the same filing
     ∷ (file (offer (sanitary 7 unit)) (four 0 0 0 0) tells filed 22 0 112)
     -- a dossier number of 2 ^ 32 more is another filing

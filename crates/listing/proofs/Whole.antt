@@ -22,7 +22,6 @@ use Rattle.records.specs.Layout.{firstLines, recordSize}
 use Rattle.records.specs.Buffer.{countAt}
 use Rattle.records.proofs.Trailer.{sound-facts}
 use Rattle.listing.specs.Listing.{codes, header, refusal, linesText, mostInput, mostOutput, refused, listingOf, listed, ofListed, lengths, listedBytes, ReadOf}
-use Rattle.listing.specs.declared.Listed.{Listed}
 use Rattle.listing.specs.declared.Listed.the-variants.{Written, Needs}
 use Rattle.listing.proofs.RecordLines.{lines-at-most}
 

@@ -1,8 +1,9 @@
 -- What is shown lies in the buffer, since the number is below n.
-use mathlib.Core.Path.{_≡_, sym, _∙_}
-use Prim.Native.Nat.{_+_, _*_, _-_}
+use mathlib.Core.Path.{_≡_, sym, ap, _∙_}
+use Prim.Native.Nat.{ℕ, _+_, _*_, _-_}
 use native.Mathlib.Omega.{arith}
 use borrow.Author.Needs.{needs}
+use Rattle.records.specs.Layout.{bytesAt}
 use Rattle.archive.specs.Archive.{showPart}
 use Rattle.archive.proofs.AnswerLaws.{accepted-refused}
 use Rattle.archive.proofs.Accepted.{shown-facts}
@@ -18,7 +19,7 @@ unfolding showPart
 returns-2 c =
     let a = c .before .before .before .before .args in
     let z : 96 * a .number + 96 - 96 * a .number ≡ 96 = omega arith in
-    rw (z, sym (c .before .before .show-refusal .ensures) ∙ c .before .if1 .left)
+    ap (λ (n : ℕ). bytesAt (a .archive .now) (96 * a .number) n) z ∙ rw (sym (c .before .before .show-refusal .ensures) ∙ c .before .if1 .left)
 
 pub show-spec : {M : Type 1} → statement M
 show-spec =
