@@ -43,9 +43,13 @@ emptying b = accepted (emptyRefusal b) (Used trailerSize) (Refused (emptyRefusal
 
 -- ── file
 
+-- from the records, where the trailer is as it must be
+abbrev pub fromRecords : List ℕ → ℕ → Offer → List Condition
+fromRecords b u o = (22 when held (linesIn b u) (o .case)) ∷ (23 when full (length b) u (countAt b u)) ∷ []
+
 -- from the state, behind the offer's own
 abbrev pub fromState : List ℕ → ℕ → Offer → List Condition
-fromState b u o = (21 when broken b u) ∷ (22 when held (linesIn b u) (o .case)) ∷ (23 when full (length b) u (countAt b u)) ∷ []
+fromState b u o = (21 when broken b u) ∷ fromRecords b u o
 
 unfoldable pub fileRefusals : List ℕ → ℕ → Offer → List Condition
 fileRefusals b u o = ownRefusals o ++ fromState b u o
