@@ -6,7 +6,7 @@ ghost use lib.ListN.{length};
 ghost use Rattle.scenario.specs.Refusal.{firstOf};
 ghost use Rattle.scenario.specs.Case.{refusalOf};
 ghost use Rattle.records.specs.Buffer.{broken};
-ghost use Rattle.archive.specs.Offers.{offer};
+ghost use Rattle.archive.specs.Offers.{Offer, offer};
 ghost use Rattle.archive.specs.Answers.{ofEmptied, ofFiling, ofHighest};
 ghost use Rattle.archive.specs.Archive.{emptyAnswer, emptyBytes, emptying, fromRecords, fromState, fileRefusal, fileAnswer, fileBytes, filing, showRefusal, showPart, worstAnswer, naming, isRecord, recordFigures};
 use emission::work_out;
@@ -38,10 +38,10 @@ pub fn empty(archive: &mut [u8]) -> Emptied
     Emptied::Used(records::TRAILER_SIZE as u64)
 }
 
-// The refusal of a filing from the records, 0 for none, where the trailer is as it must be.
+// The refusal of a filing from the records, 0 for none, where the trailer is as it must be; the same of every offer of the case.
 fn records_refusal(archive: &[u8], used: u64, case: &[u8]) -> u32
     requires { ⌜ (broken (now archive) used ≡ false) × (length (now case) ≡ 64) ⌝ }
-    ensures { λ r. ⌜ r ≡ firstOf (fromRecords (now (archive .entry)) used (offer (now (case .entry)))) ⌝ }
+    ensures { λ r. ⌜ ((o : Offer) → o .case ≡ now (case .entry) → r ≡ firstOf (fromRecords (now (archive .entry)) used o)) ⌝ }
 {
     let n = records::count_at(archive, used);
     if search::is_held(archive, n, case) {
@@ -57,10 +57,10 @@ fn records_refusal(archive: &[u8], used: u64, case: &[u8]) -> u32
     0
 }
 
-// The refusal of a filing from the state, 0 for none.
+// The refusal of a filing from the state, 0 for none; the same of every offer of the case.
 fn state_refusal(archive: &[u8], used: u64, case: &[u8]) -> u32
     requires { ⌜ length (now case) ≡ 64 ⌝ }
-    ensures { λ r. ⌜ r ≡ firstOf (fromState (now (archive .entry)) used (offer (now (case .entry)))) ⌝ }
+    ensures { λ r. ⌜ ((o : Offer) → o .case ≡ now (case .entry) → r ≡ firstOf (fromState (now (archive .entry)) used o)) ⌝ }
 {
     if records::is_broken(archive, used) {
         return 21;

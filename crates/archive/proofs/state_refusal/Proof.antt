@@ -9,6 +9,6 @@ state-refusal-spec =
     tie.close
     (tie.spec
     (λ c κs. search needs)
-    (λ c. rw (sym (c .before .is-broken .ensures) ∙ c .if1 .taken))
+    (λ c o k. rw (sym (c .before .is-broken .ensures) ∙ c .if1 .taken))
     (λ c κs. (sym (c .before .is-broken .ensures) ∙ c .if1 .left, c .before .before .before .before .pre))
-    (λ c. let e = c .before in rw (sym (e .before .is-broken .ensures) ∙ e .if1 .left) (c .records-refusal .ensures)))
+    (λ c o k. let e = c .before in rw (sym (e .before .is-broken .ensures) ∙ e .if1 .left) (c .records-refusal .ensures o k)))
