@@ -6,22 +6,20 @@ use Prim.Native.Nat.{ℕ, _+_, _*_, _-_, _≤_, _<_}
 use native.Mathlib.Omega.{arith}
 use borrow.Author.Tests.{leb-false, eqb-false}
 use lib.ListN.{length}
-use Rattle.scenario.specs.Refusal.{firstOf}
-use Rattle.scenario.specs.Case.{refusalOf}
 use Rattle.emission.specs.Figures.{figuresOf}
 use Rattle.records.specs.Layout.{usedLength, mostRecords, recordSize}
 use Rattle.records.specs.Lines.{worstOf, IsWorst}
 use Rattle.records.specs.Buffer.{countAt, linesIn, written}
 use Rattle.records.proofs.RecordLaws.{length-firstLines}
 use Rattle.records.proofs.WorstLine.{worst-is-highest}
-use Rattle.records.proofs.Trailer.{Sound, sound-facts}
+use Rattle.records.proofs.Trailer.{sound-facts}
 use Rattle.archive.specs.Offers.{Offer, Within, lineWith}
 use Rattle.archive.specs.Answers.{line, named, ofFiling}
-use Rattle.archive.specs.Archive.{showRefusals, showRefusal, fromState, fileRefusal, fileAnswer, fileBytes, filing, worstRefusals, worstRefusal, worstAnswer}
+use Rattle.archive.specs.Archive.{showRefusals, showRefusal, fromState, fileRefusals, fileRefusal, fileAnswer, fileBytes, filing, worstRefusals, worstRefusal, worstAnswer}
 use Rattle.archive.specs.declared.Filing.the-variants.{Filed, Refused}
 use Rattle.scenario.proofs.Refusals.{none-holds}
 use Rattle.archive.proofs.AnswerLaws.{accepted-refused, of-filing}
-use Rattle.archive.proofs.Refusals.{full-exactly, both-zero, file-refusal-is}
+use Rattle.archive.proofs.Refusals.{full-exactly, none-of-all}
 
 -- ── show that is not refused
 
@@ -41,18 +39,19 @@ shown-facts b u k e =
 
 pub record Free (b : List ℕ) (u : ℕ) (o : Offer) : Type 0 where
   pub within : Within o
-  pub sound : Sound b u
+  pub length-is : u ≡ usedLength recordSize (countAt b u)
   pub room : u + recordSize ≤ length b
   pub fewer : countAt b u < mostRecords
 
 pub free-facts : (b : List ℕ) (u : ℕ) (o : Offer) → fileRefusal b u o ≡ 0 → Free b u o
+unfolding fileRefusals
 free-facts b u o e =
-    let z = both-zero (refusalOf (o .case)) (firstOf (fromState b u o)) (sym (file-refusal-is b u o) ∙ e) in
+    let z = none-of-all o (fromState b u o) e in
     let h = none-holds (fromState b u o) refl (z .1) in
     let s = sound-facts b u (h 0) in
     let f = full-exactly (length b) u (countAt b u) .0 (h 2) in
     let n = f .1 in
-    record { within = record { case-within = z .0 }; sound = s; room = f .0; fewer = omega (arith, s .few) }
+    record { within = z .0; length-is = s .length-is; room = f .0; fewer = omega (arith, s .few) }
 
 pub file-refused : (b : List ℕ) (u : ℕ) (o : Offer) (r : ℕ) → r ≡ fileRefusal b u o → (r ≡ 0 → ⊥)
     → (Refused r ≡ filing b u o) × (b ≡ fileBytes b u o) × (ofFiling (Refused r) u ≡ fileAnswer b u o)
@@ -67,7 +66,7 @@ pub file-accepted : (b : List ℕ) (u : ℕ) (o : Offer) {n : ℕ} {f b′ : Lis
 unfolding filing
 file-accepted b u o {n} e m g w =
     let h = free-facts b u o e in
-    let z : u + recordSize ≡ usedLength recordSize (countAt b u + 1) = omega (arith, h .sound .length-is) in
+    let z : u + recordSize ≡ usedLength recordSize (countAt b u + 1) = omega (arith, h .length-is) in
     let a : Filed n (u + recordSize) ≡ filing b u o = rw (e, z, m) in
     (a, w ∙ rw (e, m, g), ap (λ f. ofFiling f u) a ∙ of-filing b u o)
 

@@ -12,7 +12,7 @@ use Rattle.octets.specs.Bytes.{bytesOf, splice}
 use Rattle.octets.proofs.Splice.{length-splice, splice-before, splice-behind}
 use Rattle.scenario.proofs.Refusals.{none-holds}
 use Rattle.emission.specs.Figures.{figuresOf}
-use Rattle.records.specs.Layout.{recordOf, trailer, usedLength, recordSize, edition, bytesAt}
+use Rattle.records.specs.Layout.{recordOf, trailer, trailerSize, usedLength, recordSize, edition, bytesAt}
 use Rattle.records.specs.Fields.{given, figureAt, fields, noField, fieldBytes}
 use Rattle.records.specs.Buffer.{countAt, written}
 use Rattle.records.proofs.Writing.{length-trailer}
@@ -66,40 +66,40 @@ module _ (b : List ℕ) (u : ℕ) (o : Offer) (e : fileRefusal b u o ≡ 0) wher
   sized : Sized (lineFor o)
   sized = sized-line o (free-facts b u o e .within)
 
-  length-vs : length vs ≡ 112
+  length-vs : length vs ≡ recordSize + trailerSize
   length-vs = length-append (recordOf (lineFor o)) (trailer recordSize edition (n + 1)) ∙ rw (length-recordOf (lineFor o) sized, length-trailer recordSize edition (n + 1))
 
-  fits : 96 * n + 112 ≤ length b
-  fits = let f = free-facts b u o e in omega (arith, f .sound .length-is, f .room)
+  fits : recordSize * n + (recordSize + trailerSize) ≤ length b
+  fits = let f = free-facts b u o e in omega (arith, f .length-is, f .room)
 
-  filed-before : (i : ℕ) → i < 96 * n → getD (fileBytes b u o) i 0 ≡ getD b i 0
+  filed-before : (i : ℕ) → i < recordSize * n → getD (fileBytes b u o) i 0 ≡ getD b i 0
   unfolding written
   filed-before i h = rw e (splice-before b _ _ (omega (arith, fits)) i (omega arith))
 
-  filed-behind : (i : ℕ) → 96 * n + 112 ≤ i → getD (fileBytes b u o) i 0 ≡ getD b i 0
+  filed-behind : (i : ℕ) → recordSize * n + (recordSize + trailerSize) ≤ i → getD (fileBytes b u o) i 0 ≡ getD b i 0
   unfolding written
   filed-behind i h = rw e (splice-behind b _ _ (omega (arith, fits)) i (omega (arith, length-vs)))
 
   filed-size : length (fileBytes b u o) ≡ length b
   unfolding written
-  filed-size = rw e (length-splice b (96 * n) vs (omega (arith, length-vs, fits)))
+  filed-size = rw e (length-splice b (recordSize * n) vs (omega (arith, length-vs, fits)))
 
-  filed-case : bytesAt (fileBytes b u o) (96 * n) 64 ≡ o .case
+  filed-case : bytesAt (fileBytes b u o) (recordSize * n) 64 ≡ o .case
   filed-case =
       let l = case-size (o .case) (free-facts b u o e .within .case-within) in
-      rw e (ap (λ (k : ℕ). bytesAt (written b n (lineFor o)) k 64) (sym (add-zero (96 * n))) ∙ written-at b n (lineFor o) 0 64 given sized (omega (arith, fits)) (omega arith) ∙ take-all 64 (o .case) (omega arith))
+      rw e (ap (λ (k : ℕ). bytesAt (written b n (lineFor o)) k 64) (sym (add-zero (recordSize * n))) ∙ written-at b n (lineFor o) 0 64 given sized (omega (arith, fits)) (omega arith) ∙ take-all 64 (o .case) (omega arith))
 
-  filed-figures : (k : ℕ) → k < 4 → bytesAt (fileBytes b u o) (96 * n + 64 + 8 * k) 8 ≡ bytesOf 8 (getD (figuresOf (o .case)) k 0)
+  filed-figures : (k : ℕ) → k < 4 → bytesAt (fileBytes b u o) (recordSize * n + 64 + 8 * k) 8 ≡ bytesOf 8 (getD (figuresOf (o .case)) k 0)
   filed-figures k h =
-      let p : 96 * n + 64 + 8 * k ≡ 96 * n + (64 + 8 * k) = omega arith in
+      let p : recordSize * n + 64 + 8 * k ≡ recordSize * n + (64 + 8 * k) = omega arith in
       rw (e, p) (written-at b n (lineFor o) (64 + 8 * k) 8 (figureAt k) sized (omega (arith, fits)) (refl, refl, h))
 
-  filed-trailer : bytesAt (fileBytes b u o) (96 * n + 96) 16 ≡ bytesOf 8 (96 * n + 96) ++ bytesOf 4 (n + 1) ++ bytesOf 4 1
+  filed-trailer : bytesAt (fileBytes b u o) (recordSize * n + recordSize) 16 ≡ bytesOf 8 (recordSize * n + recordSize) ++ bytesOf 4 (n + 1) ++ bytesOf 4 1
   unfolding written trailer
   filed-trailer =
       let r = recordOf (lineFor o) in
-      let p : 96 * (n + 1) ≡ 96 * n + 96 = omega arith in
-      rw (e, read-back b (96 * n) vs 96 16 (omega (arith, fits)) (omega (arith, length-vs)), drop-at r (trailer recordSize edition (n + 1)) 96 (length-recordOf (lineFor o) sized), take-all 16 (trailer recordSize edition (n + 1)) (omega (arith, length-trailer recordSize edition (n + 1))), p)
+      let p : recordSize * (n + 1) ≡ recordSize * n + recordSize = omega arith in
+      rw (e, read-back b (recordSize * n) vs recordSize trailerSize (omega (arith, fits)) (omega (arith, length-vs)), drop-at r (trailer recordSize edition (n + 1)) recordSize (length-recordOf (lineFor o) sized), take-all 16 (trailer recordSize edition (n + 1)) (omega (arith, length-trailer recordSize edition (n + 1))), p)
 
   filed-left : LeftByFile (countAt b u) o b (fileBytes b u o)
   filed-left = record { size = filed-size; before = filed-before; case = filed-case; figures = filed-figures; trailer = filed-trailer; behind = filed-behind }

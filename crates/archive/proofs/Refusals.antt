@@ -1,8 +1,8 @@
 -- Laws of the refusals of this crate's calls. The laws of any list of conditions are scenario's.
 -- `compartment-within` (12 does not hold); `full-exactly`, `full-short`, `full-most` (23 of a filing, in plain numbers).
--- A filing's list begins with the case's own: `behind-case`, `file-refusal-is`; `both-zero`, `case-refused`.
+-- A filing's list begins with the offer's own: `behind-own`; where none of all holds, `none-of-all`; of an offer within the ranges, `within-behind`; file's is then `from-state`, or else `case-refused`.
 -- That a refusal is the first that holds is in `history`.
-use mathlib.Core.Path.{_≡_, refl}
+use mathlib.Core.Path.{_≡_, refl, sym, _∙_}
 use mathlib.Core.Bool.{Bool, true, false, cond}
 use mathlib.Core.List.{List, _++_}
 use Prim.Native.Nat.{ℕ, zero, suc, _+_, _-_, _≤_, _<_}
@@ -15,7 +15,7 @@ use Rattle.octets.proofs.Bools.{neither}
 use Rattle.scenario.proofs.Refusals.{first-of-append, first-of-some}
 use Rattle.archive.specs.Conditions.{full, notCompartment}
 use Rattle.records.specs.Layout.{mostRecords, recordSize}
-use Rattle.archive.specs.Offers.{Offer}
+use Rattle.archive.specs.Offers.{Offer, ownRefusals, Within}
 use Rattle.archive.specs.Archive.{fromState, fileRefusals, fileRefusal}
 
 pub compartment-within : (m : ℕ) → notCompartment m ≡ false → (1 ≤ m) × (m ≤ 4)
@@ -52,23 +52,30 @@ full-most size used n h = is-full size used n (λ e. full-exactly size used n .0
 
 -- ── file
 
--- a refusal r, or another behind it
-abbrev pub orElse : ℕ → ℕ → ℕ
-orElse r q = cond (eqb r 0) q r
-
-pub both-zero : (r q : ℕ) → orElse r q ≡ 0 → (r ≡ 0) × (q ≡ 0)
+both-zero : (r q : ℕ) → cond (eqb r 0) q r ≡ 0 → (r ≡ 0) × (q ≡ 0)
 both-zero zero q e = (refl, e)
 both-zero (suc r) q e = absurd (omega (arith, (rw (ne-eqb (suc r) 0 (λ z. omega arith)) at e)))
 
-pub behind-case : (c : List ℕ) (ds : List Condition) → firstOf (refusals c ++ ds) ≡ orElse (refusalOf c) (firstOf ds)
+-- an offer is within the ranges when it has no refusal of its own
+own-exactly : (o : Offer) → (firstOf (ownRefusals o) ≡ 0 → Within o) × (Within o → firstOf (ownRefusals o) ≡ 0)
 unfolding refusalOf
-behind-case c ds = first-of-append (refusals c) ds refl
+own-exactly o = (λ e. record { case-within = e }, λ w. w .case-within)
 
-pub file-refusal-is : (b : List ℕ) (u : ℕ) (o : Offer) → fileRefusal b u o ≡ orElse (refusalOf (o .case)) (firstOf (fromState b u o))
+-- others behind them: those from the state, or the ledger's from its lines
+pub behind-own : (o : Offer) (ds : List Condition) → firstOf (ownRefusals o ++ ds) ≡ cond (eqb (firstOf (ownRefusals o)) 0) (firstOf ds) (firstOf (ownRefusals o))
+behind-own o ds = first-of-append (ownRefusals o) ds refl
+
+pub none-of-all : (o : Offer) (ds : List Condition) → firstOf (ownRefusals o ++ ds) ≡ 0 → Within o × (firstOf ds ≡ 0)
+none-of-all o ds e = let z = both-zero (firstOf (ownRefusals o)) (firstOf ds) (sym (behind-own o ds) ∙ e) in (own-exactly o .0 (z .0), z .1)
+
+pub within-behind : (o : Offer) (ds : List Condition) → Within o → firstOf (ownRefusals o ++ ds) ≡ firstOf ds
+within-behind o ds w = behind-own o ds ∙ rw (own-exactly o .1 w)
+
+-- file's refusal: from the state where the offer is within the ranges, and the case's own where it has one
+pub from-state : (b : List ℕ) (u : ℕ) (o : Offer) → Within o → fileRefusal b u o ≡ firstOf (fromState b u o)
 unfolding fileRefusals
-file-refusal-is b u o = behind-case (o .case) (fromState b u o)
+from-state b u o = within-behind o (fromState b u o)
 
--- a case's own refusal is file's
 pub case-refused : (b : List ℕ) (u : ℕ) (o : Offer) (r : ℕ) → r ≡ refusalOf (o .case) → (r ≡ 0 → ⊥) → r ≡ fileRefusal b u o
 unfolding fileRefusals refusalOf
 case-refused b u o r e h = first-of-some (refusals (o .case)) (fromState b u o) r refl e h

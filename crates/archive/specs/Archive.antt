@@ -7,11 +7,10 @@ use lib.Dec.{ltb, leb, eqb}
 use lib.ListN.{length}
 use Rattle.octets.specs.Bytes.{splice}
 use Rattle.scenario.specs.Refusal.{Condition, _when_, firstOf}
-use Rattle.scenario.specs.Case.{refusals}
 use Rattle.emission.specs.Figures.{figuresOf}
 use Rattle.records.specs.Layout.{Line, trailer, lineOf, trailerSize, usedLength, recordSize, edition, recordAt}
 use Rattle.archive.specs.Conditions.{accepted, full, notCompartment}
-use Rattle.archive.specs.Offers.{Offer, lineWith}
+use Rattle.archive.specs.Offers.{Offer, ownRefusals, lineWith}
 use Rattle.archive.specs.Answers.{start, entry, part, line, Answer, Effect, answerBy, leftBy}
 use Rattle.records.specs.Lines.{held, worstOf}
 use Rattle.records.specs.Buffer.{countAt, broken, linesIn, written}
@@ -44,12 +43,16 @@ emptying b = accepted (emptyRefusal b) (Used trailerSize) (Refused (emptyRefusal
 
 -- ── file
 
--- from the state, behind the case's own
+-- from the records, where the trailer is as it must be
+abbrev pub fromRecords : List ℕ → ℕ → Offer → List Condition
+fromRecords b u o = (22 when held (linesIn b u) (o .case)) ∷ (23 when full (length b) u (countAt b u)) ∷ []
+
+-- from the state, behind the offer's own
 abbrev pub fromState : List ℕ → ℕ → Offer → List Condition
-fromState b u o = (21 when broken b u) ∷ (22 when held (linesIn b u) (o .case)) ∷ (23 when full (length b) u (countAt b u)) ∷ []
+fromState b u o = (21 when broken b u) ∷ fromRecords b u o
 
 unfoldable pub fileRefusals : List ℕ → ℕ → Offer → List Condition
-fileRefusals b u o = refusals (o .case) ++ fromState b u o
+fileRefusals b u o = ownRefusals o ++ fromState b u o
 
 -- the line of what is offered: the case with its figures
 abbrev pub lineFor : Offer → Line

@@ -3,7 +3,8 @@
 use mathlib.Core.Path.{_≡_}
 use mathlib.Core.List.{List}
 use Prim.Native.Nat.{ℕ}
-use Rattle.scenario.specs.Case.{refusalOf}
+use Rattle.scenario.specs.Refusal.{Condition}
+use Rattle.scenario.specs.Case.{refusals, refusalOf}
 use Rattle.records.specs.Layout.{Line}
 
 pub record Offer : Type 0 where
@@ -12,7 +13,11 @@ pub record Offer : Type 0 where
 abbrev pub offer : List ℕ → Offer
 offer c = record { case = c }
 
--- within the ranges, the paper's term
+-- the conditions of its own refusals, which come before any from the state
+abbrev pub ownRefusals : Offer → List Condition
+ownRefusals o = refusals (o .case)
+
+-- within the ranges, the paper's term: none of them holds
 pub record Within (o : Offer) : Type 0 where
   pub case-within : refusalOf (o .case) ≡ 0
 

@@ -1,12 +1,14 @@
 // The archive in a lent slice: records of 96 bytes, then a trailer of 16. Each call is total: it answers, or refuses by number.
 // specs/ says when each refusal holds, what each call answers, and which bytes it leaves.
 ghost use mathlib.Core.Path.{_≡_};
+ghost use mathlib.Core.Bool.{false};
 ghost use lib.ListN.{length};
 ghost use Rattle.scenario.specs.Refusal.{firstOf};
 ghost use Rattle.scenario.specs.Case.{refusalOf};
-ghost use Rattle.archive.specs.Offers.{offer};
+ghost use Rattle.records.specs.Buffer.{broken};
+ghost use Rattle.archive.specs.Offers.{Offer, offer};
 ghost use Rattle.archive.specs.Answers.{ofEmptied, ofFiling, ofHighest};
-ghost use Rattle.archive.specs.Archive.{emptyAnswer, emptyBytes, emptying, fromState, fileRefusal, fileAnswer, fileBytes, filing, showRefusal, showPart, worstAnswer, naming, isRecord, recordFigures};
+ghost use Rattle.archive.specs.Archive.{emptyAnswer, emptyBytes, emptying, fromRecords, fromState, fileRefusal, fileAnswer, fileBytes, filing, showRefusal, showPart, worstAnswer, naming, isRecord, recordFigures};
 use emission::work_out;
 use records::search;
 
@@ -36,14 +38,11 @@ pub fn empty(archive: &mut [u8]) -> Emptied
     Emptied::Used(records::TRAILER_SIZE as u64)
 }
 
-// The refusal of a filing from the state, 0 for none.
-fn state_refusal(archive: &[u8], used: u64, case: &[u8]) -> u32
-    requires { ⌜ length (now case) ≡ 64 ⌝ }
-    ensures { λ r. ⌜ r ≡ firstOf (fromState (now (archive .entry)) used (offer (now (case .entry)))) ⌝ }
+// The refusal of a filing from the records, 0 for none, where the trailer is as it must be; the same of every offer of the case.
+fn records_refusal(archive: &[u8], used: u64, case: &[u8]) -> u32
+    requires { ⌜ (broken (now archive) used ≡ false) × (length (now case) ≡ 64) ⌝ }
+    ensures { λ r. ⌜ ((o : Offer) → o .case ≡ now (case .entry) → r ≡ firstOf (fromRecords (now (archive .entry)) used o)) ⌝ }
 {
-    if records::is_broken(archive, used) {
-        return 21;
-    }
     let n = records::count_at(archive, used);
     if search::is_held(archive, n, case) {
         return 22;
@@ -56,6 +55,17 @@ fn state_refusal(archive: &[u8], used: u64, case: &[u8]) -> u32
         return 23;
     }
     0
+}
+
+// The refusal of a filing from the state, 0 for none; the same of every offer of the case.
+fn state_refusal(archive: &[u8], used: u64, case: &[u8]) -> u32
+    requires { ⌜ length (now case) ≡ 64 ⌝ }
+    ensures { λ r. ⌜ ((o : Offer) → o .case ≡ now (case .entry) → r ≡ firstOf (fromState (now (archive .entry)) used o)) ⌝ }
+{
+    if records::is_broken(archive, used) {
+        return 21;
+    }
+    records_refusal(archive, used, case)
 }
 
 // File's refusal, 0 for none, where the case's own refusal is known.

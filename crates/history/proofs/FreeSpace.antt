@@ -20,13 +20,13 @@ use Rattle.archive.specs.Offers.{Offer, offer, Within}
 use Rattle.archive.specs.Archive.{emptyRefusals, fileRefusal, filing}
 use Rattle.archive.specs.Answers.{Answer, emptied, filed}
 use Rattle.archive.specs.declared.Filing.the-variants.{Filed, Refused}
-use Rattle.archive.proofs.Refusals.{full-exactly, full-short, full-most, file-refusal-is}
+use Rattle.archive.proofs.Refusals.{full-exactly, full-short, full-most, within-behind, from-state}
 use Rattle.history.specs.Calls.{FileCall}
-use Rattle.history.specs.Ledger.{Request, empty, file, judgedFile, answer, lines}
+use Rattle.history.specs.Ledger.{Request, empty, file, fromLines, judgedFile, answer, lines}
 use Rattle.history.specs.Seen.{Way}
 use Rattle.history.specs.History.{TurnBy, RunBy, next, HistoryBy, BySpace}
 use Rattle.history.proofs.Lawful.{Lawful, turn-does}
-use Rattle.history.proofs.Turns.{Stands, kept, first-stands, judged-file-is}
+use Rattle.history.proofs.Turns.{Stands, kept, first-stands}
 use Rattle.history.proofs.Demand3.{history-followed}
 
 -- ── full, of numbers
@@ -47,7 +47,7 @@ module _ (call : FileCall) where
   o = offer (now (call .args .1 .1 .0))
 
   by-space : Within o → broken b u ≡ false → (IsHeld (linesIn b u) (o .case) → ⊥) → fileRefusal b u o ≡ cond (full (length b) u (countAt b u)) 23 0
-  by-space e s h = file-refusal-is b u o ∙ rw (e .case-within, s, not-held (linesIn b u) (o .case) h)
+  by-space e s h = from-state b u o e ∙ rw (s, not-held (linesIn b u) (o .case) h)
 
   pub file-exactly : Within o → broken b u ≡ false → (IsHeld (linesIn b u) (o .case) → ⊥)
       → (u + 96 ≤ length b → countAt b u < 1000000 → call .result ≡ Filed (countAt b u) (u + 96))
@@ -68,11 +68,11 @@ module _ {W : Way} (l : Lawful W) where
   -- on a buffer that holds n lines
   after-lines : {size : ℕ} {b : List ℕ} {u : ℕ} {ls : List Line} {o : Offer} {f : List ℕ} {a : Answer} {b′ : List ℕ} → Stands size b u ls → TurnBy W (file o f) b u a b′
       → Within o → (IsHeld ls (o .case) → ⊥) → BySpace size (length ls) a
-  unfolding answer
+  unfolding answer judgedFile
   after-lines {size} {ls = ls} {o = o} {f = f} s t e h =
       let n = length ls in
       let w = usedLength recordSize n in
-      let r : firstOf (judgedFile size ls o) ≡ cond (full size w n) 23 0 = judged-file-is size ls o ∙ rw (e .case-within, not-held ls (o .case) h) in
+      let r : firstOf (judgedFile size ls o) ≡ cond (full size w n) 23 0 = within-behind o (fromLines size ls o) e ∙ rw (not-held ls (o .case) h) in
       let z = kept l (file o f) s t .answered in
       let k : usedLength recordSize (n + 1) ≡ 96 * n + 112 = omega arith in (
         λ p q. z ∙ rw (r, free size w n (omega arith) q, k),

@@ -19,10 +19,10 @@ use Rattle.records.proofs.Holding.{HoldsLines, count-is, sound-is, lines-are, r
 use Rattle.archive.specs.Conditions.{accepted}
 use Rattle.archive.specs.Offers.{Offer, Within, lineWith}
 use Rattle.archive.specs.Answers.{start, entry, part, Answer, emptied, usedIn, handed, Effect, refusalBy, answerBy, leftBy}
-use Rattle.archive.specs.Archive.{emptyRefusals, emptyEffect, emptyRefusal, lineFor, showRefusals, worstRefusals}
+use Rattle.archive.specs.Archive.{emptyRefusals, emptyEffect, emptyRefusal, fromState, fileRefusals, lineFor, showRefusals, worstRefusals}
 use Rattle.archive.proofs.AnswerLaws.{same-answer}
 use Rattle.archive.proofs.Cases.{storable-line}
-use Rattle.archive.proofs.Refusals.{full-exactly, orElse, behind-case, both-zero, file-refusal-is}
+use Rattle.archive.proofs.Refusals.{full-exactly, behind-own, none-of-all}
 use Rattle.history.specs.Ledger.{Request, empty, file, show, worst, fromLines, judgedFile, ruling, answer, after}
 use Rattle.history.specs.Seen.{effect, Way}
 use Rattle.history.specs.Calls.{WorkedOut}
@@ -54,12 +54,6 @@ held-line o f r w =
     let e = r .case-within in
     record { within-ranges = e; worked = w; bounds = λ i h. rw (← w .on, w .gave) (figure-bounds k (k .kept .0 ∙ ap refusalOf (w .on) ∙ e) i h) }
 
--- ── a filing's refusals, as the ledger judges them: the case's own, then these
-
-pub judged-file-is : (size : ℕ) (ls : List Line) (o : Offer) → firstOf (judgedFile size ls o) ≡ orElse (refusalOf (o .case)) (firstOf (fromLines size ls o))
-unfolding judgedFile
-judged-file-is size ls o = behind-case (o .case) (fromLines size ls o)
-
 -- ── empty, on any buffer
 
 emptied-stands : (b : List ℕ) → refusalBy (ruling (length b) [] empty) ≡ 0 → Stands (length b) (emptyEffect b .leaves) trailerSize []
@@ -79,11 +73,12 @@ module _ {b : List ℕ} {u : ℕ} {ls : List Line} (h : HoldsLines b u ls) (g : 
     pub fewer : length ls < mostRecords
 
   free-lines : (o : Offer) → firstOf (judgedFile (length b) ls o) ≡ 0 → FreeLines o
+  unfolding judgedFile
   free-lines o e =
-      let z = both-zero (refusalOf (o .case)) (firstOf (fromLines (length b) ls o)) (sym (judged-file-is (length b) ls o) ∙ e) in
+      let z = none-of-all o (fromLines (length b) ls o) e in
       let f = full-exactly (length b) (usedLength recordSize (length ls)) (length ls) .0 (none-holds (fromLines (length b) ls o) refl (z .1) 1) in
       let n = f .1 in
-      record { within = record { case-within = z .0 }; room = rw (h .length-is) (f .0); fewer = omega (arith, h .few) }
+      record { within = z .0; room = rw (h .length-is) (f .0); fewer = omega (arith, h .few) }
 
   file-stands : (o : Offer) (f : List ℕ) → FreeLines o → (Within o → WorkedOut (o .case) f)
       → Stands (length b) (written b (length ls) (lineFor o)) (usedLength recordSize (length ls + 1)) (ls ++ (lineWith o f ∷ []))
@@ -104,10 +99,10 @@ module _ {b : List ℕ} {u : ℕ} {ls : List Line} (h : HoldsLines b u ls) (g : 
     pub beside : e .beside ≡ j .beside
 
   alike : (c : Request) → FedBy WorkedOut c → Alike (effect c b u) (ruling (length b) ls c)
-  unfolding emptyRefusals showRefusals worstRefusals
+  unfolding emptyRefusals fileRefusals judgedFile showRefusals worstRefusals
   alike empty d = record { refused = refl; given = λ z. refl; stands = emptied-stands b; beside = refl }
   alike (file o f) d = record {
-    refused = file-refusal-is b u o ∙ rw (sound-is h, lines-are h, count-is h, h .length-is) (sym (judged-file-is (length b) ls o));
+    refused = behind-own o (fromState b u o) ∙ rw (sound-is h, lines-are h, count-is h, h .length-is) (sym (behind-own o (fromLines (length b) ls o)));
     given = λ z. rw (count-is h);
     stands = λ z. rw (count-is h) (file-stands o f (free-lines o z) d);
     beside = ap (entry 0) (h .length-is);

@@ -5,11 +5,10 @@ use Prim.Native.Nat.{ℕ, _+_}
 use lib.Dec.{ltb, leb, eqb}
 use lib.ListN.{length, getD}
 use Rattle.scenario.specs.Refusal.{Condition, _when_}
-use Rattle.scenario.specs.Case.{refusals}
 use Rattle.records.specs.Layout.{Line, noLine, recordOf, trailerSize, usedLength, recordSize}
 use Rattle.records.specs.Lines.{held, worstOf}
 use Rattle.archive.specs.Conditions.{full, notCompartment}
-use Rattle.archive.specs.Offers.{Offer, lineWith}
+use Rattle.archive.specs.Offers.{Offer, ownRefusals, lineWith}
 use Rattle.archive.specs.Answers.{start, entry, part, line, Answer, Effect, answerBy, leftBy}
 
 -- A call as the ledger is fed it. Whose figures come with a filing is said by `FedBy` of History.
@@ -25,7 +24,7 @@ abbrev pub fromLines : ℕ → List Line → Offer → List Condition
 fromLines size ls o = (22 when held ls (o .case)) ∷ (23 when full size (usedLength recordSize (length ls)) (length ls)) ∷ []
 
 unfoldable pub judgedFile : ℕ → List Line → Offer → List Condition
-judgedFile size ls o = refusals (o .case) ++ fromLines size ls o
+judgedFile size ls o = ownRefusals o ++ fromLines size ls o
 
 -- ── the ledger, the paper's term
 

@@ -18,8 +18,8 @@ use lib.Seq.{take-all, length-take-le}
 use Rattle.octets.specs.Bytes.{AreBytes, splice}
 use Rattle.octets.proofs.Splice.{splice-join, splice-read}
 use Rattle.octets.proofs.Bools.{neither}
-use Rattle.records.specs.Layout.{firstLines, recordSize}
-use Rattle.records.specs.Buffer.{countAt}
+use Rattle.records.specs.Layout.{Line, recordSize}
+use Rattle.records.specs.Buffer.{countAt, linesIn}
 use Rattle.records.proofs.Trailer.{sound-facts}
 use Rattle.listing.specs.Listing.{codes, header, refusal, linesText, mostInput, mostOutput, refused, listingOf, listed, ofListed, lengths, listedBytes, ReadOf}
 use Rattle.listing.specs.declared.Listed.the-variants.{Written, Needs}
@@ -52,7 +52,7 @@ pub listing-refused : (b : List ℕ) → refused b ≡ true → listingOf b ≡ 
 unfolding listingOf
 listing-refused b e = rw e
 
-pub listing-accepted : (b : List ℕ) → refused b ≡ false → listingOf b ≡ header ++ linesText 0 (firstLines recordSize (countIn b) b)
+pub listing-accepted : (b : List ℕ) → refused b ≡ false → listingOf b ≡ header ++ linesText 0 (linesIn b (length b))
 unfolding listingOf
 listing-accepted b e = rw e
 
@@ -60,10 +60,10 @@ pub length-refused : (b : List ℕ) → refused b ≡ true → length (listingOf
 unfolding refusal codes
 length-refused b e = ap length (listing-refused b e)
 
--- of n records
-pub length-accepted : (b : List ℕ) {n m : ℕ} → refused b ≡ false → n ≡ countIn b → m ≡ length (linesText 0 (firstLines recordSize n b)) → 46 + m ≡ length (listingOf b)
-length-accepted b e n m =
-    rw (listing-accepted b e, length-append header (linesText 0 (firstLines recordSize (countIn b) b)), length-header, m, n)
+-- of the lines that were read
+pub length-accepted : (b : List ℕ) {ls : List Line} {m : ℕ} → refused b ≡ false → ls ≡ linesIn b (length b) → m ≡ length (linesText 0 ls) → 46 + m ≡ length (listingOf b)
+length-accepted b e l m =
+    rw (listing-accepted b e, length-append header (linesText 0 (linesIn b (length b))), length-header, m, l)
 
 at-most-by : (b : List ℕ) → AreBytes b → (r : Bool) → refused b ≡ r → length (listingOf b) ≤ mostOutput
 at-most-by b h true e = omega (arith, length-refused b e)
@@ -75,11 +75,11 @@ at-most-by b h false e =
 pub listing-at-most : (b : List ℕ) → AreBytes b → length (listingOf b) ≤ mostOutput
 listing-at-most b h = at-most-by b h (refused b) refl
 
-pub listing-written : (b o : List ℕ) {n : ℕ} {p q : List ℕ} → refused b ≡ false → n ≡ countIn b → p ≡ splice o 0 header
-    → q ≡ splice p 46 (linesText 0 (firstLines recordSize n b)) → length (listingOf b) ≤ length o → q ≡ splice o 0 (listingOf b)
-listing-written b o e n f g h =
+pub listing-written : (b o : List ℕ) {ls : List Line} {p q : List ℕ} → refused b ≡ false → ls ≡ linesIn b (length b) → p ≡ splice o 0 header
+    → q ≡ splice p 46 (linesText 0 ls) → length (listingOf b) ≤ length o → q ≡ splice o 0 (listingOf b)
+listing-written b o e l f g h =
     rw (listing-accepted b e)
-    (splice-join o 0 46 header (linesText 0 (firstLines recordSize (countIn b) b)) f (rw n at g) (omega (arith, length-header)) (omega (arith, length-accepted b e refl refl, length-header)))
+    (splice-join o 0 46 header (linesText 0 (linesIn b (length b))) f (rw l at g) (omega (arith, length-header)) (omega (arith, length-accepted b e refl refl, length-header)))
 
 -- ── print
 

@@ -1,5 +1,5 @@
 -- The lines of n records, each as long as the width w, in a buffer b. The line of record k: `line-at`; those from record k on: `lines-cons`, `lines-end`.
--- Where record k ends: `record-inside`.
+-- Where record k ends: `record-inside`. Those that an archive holds, by numbers that were read: `lines-read`.
 use mathlib.Core.Path.{_≡_, _∙_}
 use mathlib.Core.List.{List, [], _∷_}
 use Prim.Native.Nat.{ℕ, zero, suc, _+_, _*_, _≤_, _<_}
@@ -8,11 +8,15 @@ use native.Mathlib.Numerals.{add-one}
 use native.Mathlib.Omega.{arith}
 use lib.ListN.{getD, drop, drop-of-length-le}
 use lib.Seq.{drop-cons, drop-drop}
-use Rattle.records.specs.Layout.{noLine, recordAt, lineOf, firstLines}
+use Rattle.records.specs.Layout.{noLine, recordAt, lineOf, firstLines, recordSize}
+use Rattle.records.specs.Buffer.{countAt, linesIn}
 use Rattle.records.proofs.RecordLaws.{length-firstLines}
 
 pub record-inside : (w n k : ℕ) → k < n → w * k + w ≤ w * n
 record-inside w n k h = let e : w * (k + 1) ≤ w * n = mul-le-mul-left {m = k + 1} {n = n} w (omega arith) in omega arith
+
+pub lines-read : (b : List ℕ) (u : ℕ) {n : ℕ} → n ≡ countAt b u → firstLines recordSize n b ≡ linesIn b u
+lines-read b u e = rw e
 
 pub line-at : (w n k : ℕ) (b : List ℕ) → k < n → getD (firstLines w n b) k noLine ≡ lineOf (recordAt w b k)
 unfolding firstLines

@@ -25,16 +25,16 @@ file-spec =
     (λ c κs. search needs)
     (λ c. search needs)
     returns
-    (λ c κs. let h = free-facts _ _ _ (sym (c .before .before .before .file-refusal .ensures) ∙ c .before .before .if1 .left) in (h .sound .at-least, h .sound .inside))
+    (λ c κs. let h = free-facts _ _ _ (sym (c .before .before .before .file-refusal .ensures) ∙ c .before .before .if1 .left) in (omega (arith, h .length-is), omega (arith, h .room)))
     (λ c κs.
     let n = c .before in
     let i = n .before .before .before in
     let h = free-facts _ _ _ (sym (i .before .file-refusal .ensures) ∙ i .if1 .left) in
     let e = n .count-at .ensures in
-    (case-size _ (h .within .case-within), omega (arith, h .sound .length-is, h .room), omega (arith, h .fewer)))
+    (case-size _ (h .within .case-within), omega (arith, h .length-is, h .room), omega (arith, h .fewer)))
     (λ c.
     let i = c .before .before .before .before .before .before .before in
     let h = free-facts _ _ _ (sym (i .before .file-refusal .ensures) ∙ i .if1 .left) in
-    record { fits = omega (arith, h .sound .length-is, h .fewer) })
+    record { fits = omega (arith, h .length-is, h .fewer) })
     (λ c. search needs)
     returns-2)

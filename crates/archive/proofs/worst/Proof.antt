@@ -1,15 +1,14 @@
 -- The tests are those of the list of refusals, in its order; the number is the search's.
 use mathlib.Core.Path.{refl, sym, ap, _∙_}
-use Prim.Native.Nat.{ℕ}
 use native.Mathlib.Omega.{arith}
 use borrow.Author.Needs.{needs}
 use borrow.Author.Tests.{eq-eqb, ne-eqb}
-use Rattle.records.specs.Layout.{firstLines, recordSize}
 use Rattle.records.specs.Lines.{worstOf}
 use Rattle.archive.specs.Answers.{named}
 use Rattle.archive.specs.Archive.{worstRefusals, naming}
 use Rattle.archive.specs.declared.Highest.the-variants.{Number}
 use Rattle.archive.proofs.Refusals.{compartment-within}
+use Rattle.records.proofs.LinesFrom.{lines-read}
 use Rattle.records.proofs.Trailer.{sound-facts}
 use Rattle.archive.proofs.worst.Statement.{statement}
 use Rattle.archive.proofs.worst.Tie as tie
@@ -34,7 +33,7 @@ returns-4 c =
     let n = c .before .before in
     let s = n .before in
     let a = s .before .before .before .before .args in
-    let k = c .worst-of .ensures ∙ ap (λ (m : ℕ). worstOf (a .compartment) (firstLines recordSize m (a .archive .now))) (n .count-at .ensures) in
+    let k = c .worst-of .ensures ∙ ap (worstOf (a .compartment)) (lines-read (a .archive .now) (a .used) (n .count-at .ensures)) in
     rw (s .before .before .if1 .left, sym (s .before .is-broken .ensures) ∙ s .if2 .left, ne-eqb _ _ (λ e. c .before .if3 .left (n .count-at .ensures ∙ e)))
     (ap Number k, ap (named 0) k)
 

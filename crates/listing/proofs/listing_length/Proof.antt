@@ -5,6 +5,7 @@ use Prim.Native.Nat.{_+_}
 use native.Mathlib.Omega.{arith}
 use borrow.Author.Needs.{needs}
 use lib.ListN.{length}
+use Rattle.records.proofs.LinesFrom.{lines-read}
 use Rattle.listing.specs.Listing.{refused, listingOf}
 use Rattle.listing.proofs.Whole.{accepted-facts, length-refused, length-accepted, listing-at-most}
 use Rattle.listing.proofs.listing_length.Statement.{statement}
@@ -14,7 +15,7 @@ accepted : (c : tie.Else1) → refused (c .before .before .before .args .archive
 accepted c = sym (c .before .is-refused .ensures) ∙ c .if1 .left
 
 sum-is : (c : tie.After-lines-length) → 46 + c .lines-length .result ≡ length (listingOf (c .before .before .before .before .before .args .archive .now))
-sum-is c = length-accepted _ (accepted (c .before .before)) (c .before .count-at .ensures) (c .lines-length .ensures)
+sum-is c = length-accepted _ (accepted (c .before .before)) (lines-read _ _ (c .before .count-at .ensures)) (c .lines-length .ensures)
 
 pub listing-length-spec : {M : Type 1} → statement M
 listing-length-spec =

@@ -4,6 +4,7 @@ use mathlib.Core.Bool.{false}
 use native.Mathlib.Omega.{arith}
 use borrow.Author.Needs.{needs}
 use Rattle.octets.specs.Bytes.{splice}
+use Rattle.records.proofs.LinesFrom.{lines-read}
 use Rattle.listing.specs.Listing.{codes, header, refusal, refused}
 use Rattle.listing.proofs.Whole.{accepted-facts, listing-refused, length-refused, length-accepted, listing-written}
 use Rattle.listing.proofs.put_listing.Statement.{statement}
@@ -23,13 +24,13 @@ put-lines-requires c κs =
     let n = c .before .before .before .before .before .before in
     let e = accepted (n .before) in
     let f = accepted-facts _ e in
-    (omega (arith, n .count-at .ensures, f .inside), omega arith, omega (arith, length-accepted _ e (n .count-at .ensures) refl, c .before .before .before .put-bytes2 .kept .0, n .before .before .before .before .before .pre))
+    (omega (arith, n .count-at .ensures, f .inside), omega arith, omega (arith, length-accepted _ e (lines-read _ _ (n .count-at .ensures)) refl, c .before .before .before .put-bytes2 .kept .0, n .before .before .before .before .before .pre))
 
 returns-2 : tie.Need-returns-2
 unfolding codes header
 returns-2 c =
     let n = c .before .before .before .before .before .before .before .before .before in
-    listing-written _ _ (accepted (n .before)) (n .count-at .ensures) (c .before .before .before .before .before .before .put-bytes2 .ensures) (c .before .before .put-lines .ensures) (n .before .before .before .before .before .pre)
+    listing-written _ _ (accepted (n .before)) (lines-read _ _ (n .count-at .ensures)) (c .before .before .before .before .before .before .put-bytes2 .ensures) (c .before .before .put-lines .ensures) (n .before .before .before .before .before .pre)
 
 pub put-listing-spec : {M : Type 1} → statement M
 put-listing-spec =
