@@ -17,7 +17,7 @@ use Rattle.archive.specs.Offers.{Offer, Within, lineWith}
 use Rattle.archive.specs.Answers.{line, named, ofFiling}
 use Rattle.archive.specs.Archive.{showRefusals, showRefusal, fromState, fileRefusals, fileRefusal, fileAnswer, fileBytes, filing, worstRefusals, worstRefusal, worstAnswer}
 use Rattle.archive.specs.declared.Filing.the-variants.{Filed, Refused}
-use Rattle.scenario.proofs.Refusals.{none-holds}
+use Rattle.kinds.proofs.Refusals.{none-holds}
 use Rattle.archive.proofs.AnswerLaws.{accepted-refused, of-filing}
 use Rattle.archive.proofs.Refusals.{full-exactly, none-of-all}
 

@@ -6,8 +6,8 @@ use Prim.Native.Nat.{ℕ, zero, suc, _^_, _<_}
 use native.Mathlib.Omega.{arith}
 use lib.Dec.{eqb}
 use lib.ListN.{length, getD, length-map}
-use Rattle.scenario.specs.Case.{routeOf, refusalOf}
-use Rattle.scenario.proofs.Ranges.{accepted-exactly}
+use Rattle.kinds.specs.Case.{routeOf, refusalOf}
+use Rattle.kinds.proofs.Ranges.{accepted-exactly}
 use Rattle.product.specs.Ratio.{Ratio, roundedUp}
 use Rattle.emission.specs.Figures.{exactValues, figuresOf}
 use Rattle.emission.proofs.Accepted.{figures-exact}

@@ -10,7 +10,7 @@ use lib.ListN.{length, getD, take, length-append}
 use lib.Seq.{take-all, drop-at}
 use Rattle.octets.specs.Bytes.{bytesOf, splice}
 use Rattle.octets.proofs.Splice.{length-splice, splice-before, splice-behind}
-use Rattle.scenario.proofs.Refusals.{none-holds}
+use Rattle.kinds.proofs.Refusals.{none-holds}
 use Rattle.emission.specs.Figures.{figuresOf}
 use Rattle.records.specs.Layout.{recordOf, trailer, trailerSize, usedLength, recordSize, edition, bytesAt}
 use Rattle.records.specs.Fields.{given, figureAt, fields, noField, fieldBytes}

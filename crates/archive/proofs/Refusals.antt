@@ -9,10 +9,10 @@ use Prim.Native.Nat.{ℕ, zero, suc, _+_, _-_, _≤_, _<_}
 use native.Mathlib.Omega.{arith}
 use borrow.Author.Tests.{ltb-false, eqb-false, le-ltb, ne-eqb}
 use lib.Dec.{ltb, eqb}
-use Rattle.scenario.specs.Refusal.{Condition, firstOf}
-use Rattle.scenario.specs.Case.{refusals, refusalOf}
+use Rattle.kinds.specs.Refusal.{Condition, firstOf}
+use Rattle.kinds.specs.Case.{refusals, refusalOf}
 use Rattle.octets.proofs.Bools.{neither}
-use Rattle.scenario.proofs.Refusals.{first-of-append, first-of-some}
+use Rattle.kinds.proofs.Refusals.{first-of-append, first-of-some}
 use Rattle.archive.specs.Conditions.{full, notCompartment}
 use Rattle.records.specs.Layout.{mostRecords, recordSize}
 use Rattle.archive.specs.Offers.{Offer, ownRefusals, Within}

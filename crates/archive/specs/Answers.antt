@@ -2,7 +2,7 @@
 -- Paper 01, 'From the state': "the places for figures and record number hold 0 beside it …; the used length comes back as given (empty: 0)".
 use mathlib.Core.List.{List}
 use Prim.Native.Nat.{ℕ}
-use Rattle.scenario.specs.Refusal.{Condition, firstOf}
+use Rattle.kinds.specs.Refusal.{Condition, firstOf}
 use Rattle.archive.specs.Conditions.{accepted}
 use Rattle.archive.specs.declared.Emptied.{Emptied}
 use Rattle.archive.specs.declared.Emptied.the-variants.{Used, Refused}

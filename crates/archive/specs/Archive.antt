@@ -6,7 +6,7 @@ use Prim.Native.Nat.{ℕ, _+_}
 use lib.Dec.{ltb, leb, eqb}
 use lib.ListN.{length}
 use Rattle.octets.specs.Bytes.{splice}
-use Rattle.scenario.specs.Refusal.{Condition, _when_, firstOf}
+use Rattle.kinds.specs.Refusal.{Condition, _when_, firstOf}
 use Rattle.emission.specs.Figures.{figuresOf}
 use Rattle.records.specs.Layout.{Line, trailer, lineOf, trailerSize, usedLength, recordSize, edition, recordAt}
 use Rattle.archive.specs.Conditions.{accepted, full, notCompartment}

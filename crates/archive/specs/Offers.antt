@@ -3,8 +3,8 @@
 use mathlib.Core.Path.{_≡_}
 use mathlib.Core.List.{List}
 use Prim.Native.Nat.{ℕ}
-use Rattle.scenario.specs.Refusal.{Condition}
-use Rattle.scenario.specs.Case.{refusals, refusalOf}
+use Rattle.kinds.specs.Refusal.{Condition}
+use Rattle.kinds.specs.Case.{refusals, refusalOf}
 use Rattle.records.specs.Layout.{Line}
 
 pub record Offer : Type 0 where

@@ -3,8 +3,8 @@
 ghost use mathlib.Core.Path.{_≡_};
 ghost use mathlib.Core.Bool.{false};
 ghost use lib.ListN.{length};
-ghost use Rattle.scenario.specs.Refusal.{firstOf};
-ghost use Rattle.scenario.specs.Case.{refusalOf};
+ghost use Rattle.kinds.specs.Refusal.{firstOf};
+ghost use Rattle.kinds.specs.Case.{refusalOf};
 ghost use Rattle.records.specs.Buffer.{broken};
 ghost use Rattle.archive.specs.Offers.{Offer, offer};
 ghost use Rattle.archive.specs.Answers.{ofEmptied, ofFiling, ofHighest};

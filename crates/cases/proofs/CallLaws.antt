@@ -10,7 +10,7 @@ use native.Mathlib.Numerals.{add-one}
 use borrow.Author.Tests.{lt-ltb, le-ltb, le-leb, lt-leb, ne-eqb}
 use lib.ListN.{length, take, set, replicate}
 use Rattle.octets.specs.Bytes.{bytesOf, numberAt, splice}
-use Rattle.scenario.specs.Builder.{caseBytes}
+use Rattle.kinds.specs.Builder.{caseBytes}
 use Rattle.records.specs.Layout.{Line, lineOf}
 use Rattle.records.specs.Buffer.{written}
 use Rattle.archive.specs.Offers.{offer}

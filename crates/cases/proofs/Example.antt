@@ -5,7 +5,7 @@ use mathlib.Core.List.{List}
 use Prim.Native.Nat.{ℕ}
 use Rattle.bytes.specs.Bytes.{indexOf, indexAfter}
 use Rattle.octets.specs.Bytes.{bytesOf, numberOf, numberAt, splice}
-use Rattle.scenario.specs.Builder.{caseBytes, hundred, unit}
+use Rattle.kinds.specs.Builder.{caseBytes, hundred, unit}
 use Rattle.listing.specs.Listing.{codes}
 use Rattle.cases.specs.Words.{onto, partsOf, sameWord, placeIn}
 use Rattle.cases.specs.Numbers.{digitOf, valueFrom, valueIn, isHexadecimal, numberIn}

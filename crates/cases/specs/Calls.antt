@@ -6,7 +6,7 @@ use lib.Dec.{ltb, leb, eqb}
 use lib.ListN.{length, take, drop, set, replicate}
 use Rattle.bytes.specs.Bytes.{indexOf}
 use Rattle.listing.specs.Listing.{codes}
-use Rattle.scenario.specs.Builder.{caseBytes}
+use Rattle.kinds.specs.Builder.{caseBytes}
 use Rattle.records.specs.Layout.{Line, lineOf}
 use Rattle.records.specs.Buffer.{written}
 use Rattle.archive.specs.Offers.{offer}

@@ -1,7 +1,7 @@
 // The C interface. Each call is total, returns the refusal's number or 0, and leaves every output with a stated value.
 // A slice is passed as a pointer and a length, in that order; include/csorvelin.h declares these functions for C.
 ghost use mathlib.Core.Path.{_≡_};
-ghost use Rattle.scenario.specs.Case.{refusalOf};
+ghost use Rattle.kinds.specs.Case.{refusalOf};
 ghost use Rattle.emission.specs.Figures.{figuresOf};
 ghost use Rattle.records.specs.Layout.{bytesAt};
 ghost use Rattle.archive.specs.Offers.{offer};

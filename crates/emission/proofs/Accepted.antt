@@ -10,7 +10,7 @@ use lib.Dec.{eqb}
 use lib.ListN.{getD, List·getD-map}
 use borrow.Author.Tests.{eqb-true, eqb-false, eq-eqb, ne-eqb}
 use Rattle.natural.specs.Ceiling.{ceiling}
-use Rattle.scenario.specs.Case.{routeOf, refusalOf}
+use Rattle.kinds.specs.Case.{routeOf, refusalOf}
 use Rattle.scenario.specs.Decoding.{caseOf, headOf, decoded}
 use Rattle.scenario.specs.declared.Case.{Case}
 use Rattle.scenario.specs.declared.Head.{Head}

@@ -10,7 +10,7 @@ use native.Mathlib.Omega.{arith}
 use lib.Dec.{eqb}
 use lib.ListN.{getD}
 use borrow.Author.Tests.{eqb-true}
-use Rattle.scenario.specs.Case.{routeOf}
+use Rattle.kinds.specs.Case.{routeOf}
 use Rattle.scenario.specs.Decoding.{caseOf, headOf}
 use Rattle.product.specs.Ratio.{Ratio, _over_}
 use Rattle.product.specs.Chain.{Factor, number}

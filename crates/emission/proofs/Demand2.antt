@@ -17,10 +17,10 @@ use lib.ListN.{getD}
 use denote.Ref.{now}
 use Rattle.natural.proofs.Ceiling.{ceiling-not-below, ceiling-less-than-one-above, ceiling-zero}
 use Rattle.product.specs.Ratio.{Ratio, _over_, roundedUp}
-use Rattle.scenario.specs.Refusal.{IsFirst}
-use Rattle.scenario.specs.Case.{refusals, refusalOf}
-use Rattle.scenario.proofs.Refusals.{refusal-order}
-use Rattle.scenario.proofs.Ranges.{WithinRanges, accepted-exactly}
+use Rattle.kinds.specs.Refusal.{IsFirst}
+use Rattle.kinds.specs.Case.{refusals, refusalOf}
+use Rattle.kinds.proofs.Refusals.{refusal-order}
+use Rattle.kinds.proofs.Ranges.{WithinRanges, accepted-exactly}
 use Rattle.emission.specs.Called.{Called}
 use Rattle.emission.specs.Figures.{exactValues, figuresOf, WithinBounds, margin}
 use Rattle.emission.proofs.Accepted.{figures-exact, figure-rounded, figures-refused}

@@ -12,7 +12,7 @@ use lib.Ieee.{Float}
 use lib.ListN.{getD}
 use Rattle.natural.proofs.Ceiling.{ceiling-at-most}
 use Rattle.octets.proofs.Bools.{every, every-at}
-use Rattle.scenario.specs.Case.{refusalOf}
+use Rattle.kinds.specs.Case.{refusalOf}
 use Rattle.scenario.specs.Decoding.{caseOf, headOf}
 use Rattle.scenario.specs.declared.Case.{Case}
 use Rattle.scenario.specs.declared.Case.the-variants.{Measured, Unknown, Application, Sanitary, Formulation, Hygiene, Toilets}

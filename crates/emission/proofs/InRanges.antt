@@ -5,11 +5,11 @@ use Prim.Native.Nat.{ℕ, zero, suc, _*_, _≤_, _<_}
 use native.Mathlib.Omega.{arith}
 use Rattle.binary64.specs.Quantity.{one}
 use Rattle.binary64.proofs.Exact.{not-nan, whole-zero}
-use Rattle.scenario.specs.Case.{kinds, kindOf, rowOf, countOf, patternAt, quantityOf, exactOf, exactAt, refusalOf}
+use Rattle.kinds.specs.Case.{kinds, kindOf, rowOf, countOf, patternAt, quantityOf, exactOf, exactAt, refusalOf}
 use Rattle.scenario.specs.Decoding.{caseWith, caseOfPatterns, caseOf, headOf}
-use Rattle.scenario.specs.Ranges.{Between, ByRow, OwnUpTo, allowedBy}
-use Rattle.scenario.proofs.KindTable.{each-kind, _then_}
-use Rattle.scenario.proofs.Ranges.{WithinRanges, accepted-exactly}
+use Rattle.kinds.specs.Ranges.{Between, ByRow, OwnUpTo, allowedBy}
+use Rattle.kinds.proofs.KindTable.{each-kind, _then_}
+use Rattle.kinds.proofs.Ranges.{WithinRanges, accepted-exactly}
 use Rattle.product.specs.Ratio.{Ratio}
 use Rattle.product.specs.Ranges.{UpTo}
 use Rattle.equations.specs.Ranges.{Within, InRange}

@@ -10,7 +10,7 @@ use lib.Dec.{leb}
 use lib.ListN.{getD}
 use lib.Ieee.{Float}
 use borrow.Author.Tests.{leb-true}
-use Rattle.scenario.specs.Case.{refusalOf}
+use Rattle.kinds.specs.Case.{refusalOf}
 use Rattle.scenario.specs.Decoding.{caseOf, headOf}
 use Rattle.scenario.specs.declared.Case.{Case}
 use Rattle.scenario.specs.declared.Case.the-variants.{Measured, Unknown, Application, Sanitary, Formulation, Hygiene, Toilets}

@@ -5,7 +5,7 @@ use mathlib.Core.Bool.{cond}
 use mathlib.Core.List.{List, [], _∷_, map}
 use Prim.Native.Nat.{ℕ, _+_, _*_, _^_, _≤_, _<_}
 use lib.Dec.{eqb}
-use Rattle.scenario.specs.Case.{routeOf, refusalOf}
+use Rattle.kinds.specs.Case.{routeOf, refusalOf}
 use Rattle.scenario.specs.Decoding.{caseOf, headOf}
 use Rattle.product.specs.Ratio.{Ratio, _over_, roundedUp}
 use Rattle.equations.specs.Equations.{toWater, toAir, toSoil, micrograms}

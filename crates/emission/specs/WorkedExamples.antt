@@ -4,8 +4,8 @@ use mathlib.Core.Path.{_≡_}
 use mathlib.Core.List.{List, [], _∷_}
 use Prim.Native.Nat.{ℕ}
 use lib.ListN.{getD}
-use Rattle.scenario.specs.Case.{refusalOf}
-use Rattle.scenario.specs.Builder.{caseBytes, hundred, sixteen, five, unit, three-quarters, half, quarter, eighth, thirty-second, sixty-fourth, two^-9, two^-10, two^-52, two^-54}
+use Rattle.kinds.specs.Case.{refusalOf}
+use Rattle.kinds.specs.Builder.{caseBytes, hundred, sixteen, five, unit, three-quarters, half, quarter, eighth, thirty-second, sixty-fourth, two^-9, two^-10, two^-52, two^-54}
 use Rattle.product.specs.Ratio.{Ratio, _over_, Same}
 use Rattle.equations.specs.RowExamples.{kg, nothing}
 use Rattle.emission.specs.Figures.{exactValues}

@@ -4,7 +4,7 @@ ghost use mathlib.Core.Path.{_≡_};
 ghost use mathlib.Core.Bool.{cond};
 ghost use mathlib.Core.List.{[], _∷_};
 ghost use lib.Dec.{eqb};
-ghost use Rattle.scenario.specs.Case.{refusalOf};
+ghost use Rattle.kinds.specs.Case.{refusalOf};
 ghost use Rattle.product.specs.Ratio.{roundedUp};
 ghost use Rattle.equations.specs.Equations.{toWater, toAir, toSoil, micrograms};
 ghost use Rattle.emission.specs.Figures.{figuresOf};

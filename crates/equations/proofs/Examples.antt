@@ -12,9 +12,9 @@ use Rattle.octets.specs.Bytes.{bytesOf, numberOf, numberAt}
 use Rattle.binary64.specs.Pattern.{isUnsignedFinite}
 use Rattle.binary64.specs.Quantity.{wholeAt, whole}
 use Rattle.octets.proofs.Bools.{both, every}
-use Rattle.scenario.specs.Case.{kinds, kindAt, notSixtyFour, kindUnknown, rowUnknown, routeNotAllowed, userNotAllowed, countNotAllowed, notNumber, notZeroBytes, overLimit, sumFrom, sumWithin, summedOf, sumOver, refusalOf}
+use Rattle.kinds.specs.Case.{kinds, kindAt, notSixtyFour, kindUnknown, rowUnknown, routeNotAllowed, userNotAllowed, countNotAllowed, notNumber, notZeroBytes, overLimit, sumFrom, sumWithin, summedOf, sumOver, refusalOf}
 use Rattle.scenario.specs.Decoding.{caseWith, caseOfPatterns, caseOf, headOf}
-use Rattle.scenario.specs.Builder.{caseBytes}
+use Rattle.kinds.specs.Builder.{caseBytes}
 use Rattle.product.specs.Ratio.{Ratio, Same}
 use Rattle.product.specs.Chain.{chain}
 use Rattle.equations.specs.Rows.{cities, cityAt, hygienes, hygieneAt}

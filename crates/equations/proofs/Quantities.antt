@@ -7,10 +7,10 @@ use Prim.Native.Nat.{ℕ, _<_}
 use native.Mathlib.Omega.{arith}
 use Rattle.binary64.specs.Quantity.{whole, one}
 use Rattle.binary64.proofs.Exact.{pattern-back}
-use Rattle.scenario.specs.Case.{patternAt, ofSix, quantityOf, exactOf, exactAt, refusalOf}
+use Rattle.kinds.specs.Case.{patternAt, ofSix, quantityOf, exactOf, exactAt, refusalOf}
 use Rattle.scenario.specs.Decoding.{caseOf, quantitiesIn}
-use Rattle.scenario.specs.Ranges.{Number}
-use Rattle.scenario.proofs.Ranges.{accepted-exactly}
+use Rattle.kinds.specs.Ranges.{Number}
+use Rattle.kinds.proofs.Ranges.{accepted-exactly}
 use Rattle.scenario.proofs.Said.{accepted-says}
 use Rattle.product.specs.Ratio.{_over_, exactly}
 

@@ -4,9 +4,9 @@
 use mathlib.Core.Path.{_≡_}
 use mathlib.Core.List.{List, [], _∷_}
 use Prim.Native.Nat.{ℕ, _*_}
-use Rattle.scenario.specs.Case.{refusalOf}
+use Rattle.kinds.specs.Case.{refusalOf}
 use Rattle.scenario.specs.Decoding.{caseOf, headOf}
-use Rattle.scenario.specs.Builder.{caseBytes, thousand, hundred, sixteen, five, unit, three-quarters, half, quarter, eighth, thirty-second}
+use Rattle.kinds.specs.Builder.{caseBytes, thousand, hundred, sixteen, five, unit, three-quarters, half, quarter, eighth, thirty-second}
 use Rattle.product.specs.Ratio.{Ratio, _over_, Same}
 use Rattle.equations.specs.Equations.{toWater, toAir, toSoil, micrograms}
 

@@ -8,8 +8,8 @@ use mathlib.Core.List.{List}
 use Prim.Native.Nat.{ℕ}
 use contract.Lifetimes.{Lfts}
 use denote.Ref.{now}
-use Rattle.scenario.specs.Refusal.{Condition, firstOf, IsFirst}
-use Rattle.scenario.proofs.Refusals.{first-of-is-first, first-is-first-of}
+use Rattle.kinds.specs.Refusal.{Condition, firstOf, IsFirst}
+use Rattle.kinds.proofs.Refusals.{first-of-is-first, first-is-first-of}
 use Rattle.records.specs.Lines.{IsWorst}
 use Rattle.records.specs.Buffer.{linesIn}
 use Rattle.emission.specs.Called.{ends}

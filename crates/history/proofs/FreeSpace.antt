@@ -9,7 +9,7 @@ use native.Mathlib.Omega.{arith}
 use borrow.Author.Tests.{le-ltb}
 use denote.Ref.{now}
 use lib.ListN.{length}
-use Rattle.scenario.specs.Refusal.{firstOf}
+use Rattle.kinds.specs.Refusal.{firstOf}
 use Rattle.records.specs.Layout.{Line, usedLength, recordSize}
 use Rattle.records.specs.Lines.{IsHeld}
 use Rattle.records.specs.Buffer.{countAt, broken, linesIn}

@@ -4,7 +4,7 @@ use mathlib.Core.List.{List, []}
 use Prim.Native.Nat.{ℕ, zero, suc, _+_, _*_, _≤_}
 use base.Fml.{Lft}
 use lib.ListN.{length}
-use Rattle.scenario.specs.Case.{refusalOf}
+use Rattle.kinds.specs.Case.{refusalOf}
 use Rattle.emission.specs.Figures.{figuresOf}
 use Rattle.records.specs.Layout.{trailerSize, usedLength, recordSize, bytesAt, recordAt}
 use Rattle.records.specs.Lines.{worstOf}

@@ -7,7 +7,7 @@ use base.Fml.{Lft}
 use borrow.Author.Tests.{le-ltb}
 use denote.Ref.{RefT}
 use lib.ListN.{length}
-use Rattle.scenario.specs.Case.{refusalOf}
+use Rattle.kinds.specs.Case.{refusalOf}
 use Rattle.emission.specs.Figures.{figuresOf}
 use Rattle.archive.specs.Answers.{Answer, emptied, handed, answerBy, leftBy}
 use Rattle.archive.specs.Archive.{emptyRefusals, emptyBytes, emptying, fileBytes, filing, showRefusal, showPart, naming}

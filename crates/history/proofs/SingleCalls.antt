@@ -7,9 +7,9 @@ use mathlib.Core.List.{List, [], _∷_}
 use Prim.Native.Nat.{ℕ, zero, suc, _+_, _<_}
 use denote.Ref.{now}
 use lib.ListN.{getD}
-use Rattle.scenario.specs.Refusal.{IsFirst}
-use Rattle.scenario.specs.Case.{refusals, refusalOf}
-use Rattle.scenario.proofs.Refusals.{refusal-order}
+use Rattle.kinds.specs.Refusal.{IsFirst}
+use Rattle.kinds.specs.Case.{refusals, refusalOf}
+use Rattle.kinds.proofs.Refusals.{refusal-order}
 use Rattle.product.specs.Ratio.{_over_}
 use Rattle.emission.specs.Figures.{exactValues, WithinBounds, margin}
 use Rattle.emission.specs.Called.{ends}

@@ -8,9 +8,9 @@ use native.Mathlib.Omega.{arith}
 use borrow.Author.Tests.{ltb-false, leb-false}
 use lib.Dec.{ltb, leb}
 use lib.ListN.{length}
-use Rattle.scenario.specs.Refusal.{_when_, firstOf}
-use Rattle.scenario.specs.Case.{refusalOf}
-use Rattle.scenario.proofs.Refusals.{none-holds}
+use Rattle.kinds.specs.Refusal.{_when_, firstOf}
+use Rattle.kinds.specs.Case.{refusalOf}
+use Rattle.kinds.proofs.Refusals.{none-holds}
 use Rattle.emission.specs.Figures.{figuresOf}
 use Rattle.emission.proofs.Demand2.{figure-bounds}
 use Rattle.records.specs.Layout.{Line, trailerSize, usedLength, mostRecords, recordSize}

@@ -3,7 +3,7 @@ use mathlib.Core.Path.{_≡_}
 use mathlib.Core.List.{List, [], _∷_}
 use Prim.Native.Nat.{ℕ, _+_, _*_, _≤_, _<_}
 use lib.ListN.{length, getD, take}
-use Rattle.scenario.specs.Case.{refusalOf}
+use Rattle.kinds.specs.Case.{refusalOf}
 use Rattle.product.specs.Ratio.{_over_}
 use Rattle.emission.specs.Figures.{exactValues, figuresOf, WithinBounds, margin}
 use Rattle.records.specs.Layout.{Line, archiveOf, usedLength, recordSize, edition}

@@ -4,7 +4,7 @@ use mathlib.Core.List.{List, [], _∷_, _++_}
 use Prim.Native.Nat.{ℕ, _+_}
 use lib.Dec.{ltb, leb, eqb}
 use lib.ListN.{length, getD}
-use Rattle.scenario.specs.Refusal.{Condition, _when_}
+use Rattle.kinds.specs.Refusal.{Condition, _when_}
 use Rattle.records.specs.Layout.{Line, noLine, recordOf, trailerSize, usedLength, recordSize}
 use Rattle.records.specs.Lines.{held, worstOf}
 use Rattle.archive.specs.Conditions.{full, notCompartment}

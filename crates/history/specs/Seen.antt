@@ -3,7 +3,7 @@
 use mathlib.Core.Path.{_≡_}
 use mathlib.Core.List.{List}
 use Prim.Native.Nat.{ℕ, _+_, _*_}
-use Rattle.scenario.specs.Refusal.{Condition, IsFirst}
+use Rattle.kinds.specs.Refusal.{Condition, IsFirst}
 use Rattle.archive.specs.Offers.{Offer}
 use Rattle.archive.specs.Answers.{Answer, emptied, filed, Effect}
 use Rattle.archive.specs.Archive.{emptyEffect, fileEffect, showEffect, worstEffect}

@@ -3,7 +3,7 @@
 -- P1, P2, P8 and P10 are the pencil cases of paper 01, P8 with 1/8 tonne; the figures fed are those that work out gives: `worked-fed`.
 use mathlib.Core.List.{List, [], _∷_, _++_}
 use Prim.Native.Nat.{ℕ}
-use Rattle.scenario.specs.Builder.{caseBytes, hundred, unit, half, quarter, eighth, sixty-fourth}
+use Rattle.kinds.specs.Builder.{caseBytes, hundred, unit, half, quarter, eighth, sixty-fourth}
 use Rattle.archive.specs.Offers.{offer}
 use Rattle.archive.specs.Answers.{Answer, emptied, filed, shown, named}
 use Rattle.history.specs.Ledger.{Request, empty, file, show, worst}

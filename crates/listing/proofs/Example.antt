@@ -10,7 +10,7 @@ use borrow.Author.Tests.{lt-ltb, le-ltb}
 use lib.ListN.{length}
 use Rattle.natural.specs.Ceiling.{ceiling}
 use Rattle.octets.specs.Bytes.{bytesOf, numberOf, numberAt}
-use Rattle.scenario.specs.Builder.{caseBytes, hundred, unit}
+use Rattle.kinds.specs.Builder.{caseBytes, hundred, unit}
 use Rattle.records.specs.Layout.{figureBytes, recordOf, records, trailer, archiveOf, figuresIn, lineOf, firstLines, recordSize, edition}
 use Rattle.records.specs.Buffer.{broken, linesIn}
 use Rattle.listing.specs.Decimal.{digitsWithin, digits, decimal}

@@ -9,7 +9,7 @@ use lib.Dec.{ltb, leb}
 use lib.ListN.{length, take}
 use Rattle.natural.specs.Ceiling.{ceiling}
 use Rattle.octets.specs.Bytes.{splice}
-use Rattle.scenario.specs.Case.{kindOf, rowOf, routeOf, dossierOf}
+use Rattle.kinds.specs.Case.{kindOf, rowOf, routeOf, dossierOf}
 use Rattle.records.specs.Layout.{Line}
 use Rattle.records.specs.Buffer.{broken, linesIn}
 use Rattle.listing.specs.Decimal.{decimal}

@@ -13,7 +13,7 @@ use lib.Seq.{take-at, drop-append-add}
 use Rattle.octets.specs.Bytes.{bytesOf, splice}
 use Rattle.octets.proofs.Numbers.{length-bytesOf}
 use Rattle.octets.proofs.Splice.{splice-read}
-use Rattle.scenario.specs.Builder.{caseBytes}
+use Rattle.kinds.specs.Builder.{caseBytes}
 use Rattle.octets.proofs.Bools.{both, every, every-at}
 use Rattle.records.specs.Layout.{Line, figureBytes, recordOf, trailer, recordSize, edition, bytesAt}
 use Rattle.records.specs.Fields.{Source, given, figureAt, Field, fields, noField, coversFrom, fieldBytes}

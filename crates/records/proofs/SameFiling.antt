@@ -10,7 +10,7 @@ use lib.Dec.{eqb}
 use lib.ListN.{length, getD, take, drop, length-drop}
 use lib.Seq.{getD-drop}
 use Rattle.octets.specs.Bytes.{AreBytes, numberOf, numberAt}
-use Rattle.scenario.specs.Case.{kindOf, rowOf, routeOf, userOf, dossierOf}
+use Rattle.kinds.specs.Case.{kindOf, rowOf, routeOf, userOf, dossierOf}
 use Rattle.records.specs.Layout.{noLine, caseSize, bytesAt, recordAt, lineOf, firstLines}
 use Rattle.records.specs.Lines.{sameBytes, sameFiling}
 use Rattle.records.proofs.RecordLaws.{part-take, part-part}

@@ -1,12 +1,4 @@
--- Laws that this crate's proofs and the crates above cite, and theorems on refusals and cases.
-pub mod Refusals
-pub mod KindTable
-pub mod Six
-pub mod Limits
-pub mod FieldRanges
-pub mod QuantityRanges
-pub mod Ranges
+-- Laws that this crate's proofs and the crates above cite, and what an accepted case says.
+pub mod Faults
+pub mod Decoding
 pub mod Said
-pub mod Sum
-pub mod Edges
-pub mod ReadBack

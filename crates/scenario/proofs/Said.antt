@@ -5,12 +5,12 @@ use mathlib.Core.List.{List}
 use Prim.Native.Nat.{ℕ}
 use lib.Dec.{eqb}
 use borrow.Author.Tests.{eqb-true}
-use Rattle.scenario.specs.Case.{kinds, kindOf, patternAt, ofSix, quantityOf, refusalOf}
+use Rattle.kinds.specs.Case.{kinds, kindOf, patternAt, ofSix, quantityOf, refusalOf}
 use Rattle.scenario.specs.Decoding.{caseWith, caseOfPatterns, caseOf, headOf, decoded, kindIn, quantitiesIn, ofDecoded, said}
-use Rattle.scenario.specs.Ranges.{allowedBy}
+use Rattle.kinds.specs.Ranges.{allowedBy}
 use Rattle.scenario.specs.declared.Decoded.{Decoded}
-use Rattle.scenario.proofs.KindTable.{each-kind, _then_}
-use Rattle.scenario.proofs.Ranges.{accepted-exactly}
+use Rattle.kinds.proofs.KindTable.{each-kind, _then_}
+use Rattle.kinds.proofs.Ranges.{accepted-exactly}
 
 pub accepted-says : (b : List ℕ) → refusalOf b ≡ 0 → (kindIn (caseOf b) ≡ kindOf b) × (quantitiesIn (caseOf b) ≡ ofSix (λ i. quantityOf (patternAt b i)))
 unfolding caseOfPatterns caseWith kinds

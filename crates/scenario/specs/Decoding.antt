@@ -5,7 +5,7 @@ use mathlib.Core.List.{List, [], _∷_}
 use Prim.Native.Nat.{ℕ}
 use lib.Dec.{eqb}
 use lib.Ieee.{Float}
-use Rattle.scenario.specs.Case.{kindOf, rowOf, routeOf, userOf, countOf, dossierOf, patternAt, ofSix, quantityOf, refusalOf}
+use Rattle.kinds.specs.Case.{kindOf, rowOf, routeOf, userOf, countOf, dossierOf, patternAt, ofSix, quantityOf, refusalOf}
 use Rattle.scenario.specs.declared.Site.{Site}
 use Rattle.scenario.specs.declared.Case.{Case}
 use Rattle.scenario.specs.declared.Case.the-variants.{Measured, Unknown, Application, Sanitary, Formulation, Hygiene, Toilets}

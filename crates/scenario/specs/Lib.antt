@@ -1,8 +1,3 @@
--- What a reader of this crate must believe, in the order of paper 01: definitions only. Theorems about them stand in proofs/.
-pub mod Refusal
-pub mod Case
-pub mod Patterns
+-- What a reader of this crate must believe: definitions only. Theorems about them stand in proofs/. What each kind allows is in crate kinds.
+pub mod Faults
 pub mod Decoding
-pub mod Ranges
-pub mod Builder
-pub mod Edges

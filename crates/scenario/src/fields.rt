@@ -1,13 +1,15 @@
 // What stands before the quantities of a case, and refusals 2 to 7.
 ghost use mathlib.Core.Path.{_≡_};
 ghost use lib.ListN.{length};
-ghost use Rattle.scenario.specs.Refusal.{firstOf};
-ghost use Rattle.scenario.specs.Case.{kindUnknown, routeNotAllowed, headRefusals};
+ghost use Rattle.kinds.specs.Refusal.{firstOf};
+ghost use Rattle.kinds.specs.Case.{headRefusals};
 ghost use Rattle.scenario.specs.Decoding.{headOf};
 use crate::Head;
-use crate::kinds::count_not_allowed;
-use crate::kinds::row_unknown;
-use crate::kinds::user_not_allowed;
+use kinds::count_not_allowed;
+use kinds::kind_unknown;
+use kinds::route_not_allowed;
+use kinds::row_unknown;
+use kinds::user_not_allowed;
 
 pub fn head_at(case: &[u8]) -> Head
     requires { ⌜ length (now case) ≡ 64 ⌝ }
@@ -20,20 +22,6 @@ pub fn head_at(case: &[u8]) -> Head
         count: octets::u32_at(case, 4),
         dossier: octets::u64_at(case, 8),
     }
-}
-
-fn kind_unknown(kind: u8) -> bool
-    ensures { λ r. ⌜ r ≡ kindUnknown kind ⌝ }
-{
-    !((1 <= kind) & (kind <= 7))
-}
-
-// Route 2, the rain sewer, is for the uses outdoors of a city.
-fn route_not_allowed(kind: u8, row: u8, route: u8) -> bool
-    ensures { λ r. ⌜ r ≡ routeNotAllowed kind row route ⌝ }
-{
-    let outdoors = ((1 <= kind) & (kind <= 3)) & ((row == 0) | ((3 <= row) & (row <= 7)));
-    !((route == 1) | ((route == 2) & outdoors))
 }
 
 // The first of refusals 2 to 7 that holds, 0 for none.

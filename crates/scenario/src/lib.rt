@@ -1,16 +1,15 @@
 // A case of 64 bytes: decoded to an enum over kinds, or refused by the first of refusals 1 to 11 that holds.
-// specs/ says what each kind allows, when each refusal holds and what a case says.
+// specs/ says what a case says; what each kind allows and when each refusal holds is in crate kinds.
 ghost use mathlib.Core.Path.{_≡_};
 ghost use mathlib.Core.Bool.{false};
 ghost use mathlib.Core.List.{_++_};
-ghost use Rattle.scenario.specs.Refusal.{firstOf};
-ghost use Rattle.scenario.specs.Case.{anyNotNumber, headRefusals, quantityRefusals};
-ghost use Rattle.scenario.specs.Patterns.{at};
+ghost use Rattle.kinds.specs.Refusal.{firstOf};
+ghost use Rattle.kinds.specs.Case.{anyNotNumber, headRefusals, quantityRefusals};
+ghost use Rattle.kinds.specs.Patterns.{at};
 ghost use Rattle.scenario.specs.Decoding.{caseWith, caseOfPatterns, decoded, ofDecoded, said};
 use quantities::quantity_at;
 
 mod fields;
-mod kinds;
 mod quantities;
 
 // Row 0 of the city kinds: area in m2, volume in L/m2, density in kg/m3. Zero with the other rows.

@@ -4,12 +4,13 @@ ghost use mathlib.Core.Bool.{false, not};
 ghost use Prim.Native.Nat.{_<_};
 ghost use lib.Ieee.{binary64, ofBits, le};
 ghost use lib.ListN.{length};
-ghost use Rattle.scenario.specs.Refusal.{firstOf};
-ghost use Rattle.scenario.specs.Case.{quantityOf, anyNotNumber, sumOver, quantityRefusals};
-ghost use Rattle.scenario.specs.Patterns.{patternsOf, at, addFaults, faultsOf};
-use crate::kinds::limits_of;
+ghost use Rattle.kinds.specs.Refusal.{firstOf};
+ghost use Rattle.kinds.specs.Case.{quantityOf, anyNotNumber, sumOver, quantityRefusals};
+ghost use Rattle.kinds.specs.Patterns.{patternsOf, at};
+ghost use Rattle.scenario.specs.Faults.{addFaults, faultsOf};
 use binary64::pattern::is_unsigned_finite;
 use binary64::pattern::quantity_of;
+use kinds::limits_of;
 use octets::u64_at;
 
 pub fn patterns_at(case: &[u8]) -> [u64; 6]

@@ -4,7 +4,7 @@ use mathlib.Core.Bool.{Bool, true, false, cond}
 use native.Mathlib.Omega.{arith}
 use denote.Ref.{now}
 use lib.ListN.{length}
-use Rattle.scenario.specs.Refusal.{firstOf}
+use Rattle.kinds.specs.Refusal.{firstOf}
 use Rattle.records.proofs.Trailer.{sound-facts}
 use Rattle.archive.specs.Conditions.{full}
 use Rattle.archive.specs.Offers.{Offer}

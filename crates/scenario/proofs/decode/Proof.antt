@@ -3,7 +3,8 @@ use mathlib.Core.Path.{sym, _∙_}
 use denote.Ref.{now}
 use borrow.Author.Needs.{needs}
 use Rattle.scenario.specs.Decoding.{caseOfPatterns}
-use Rattle.scenario.proofs.Refusals.{refusal-of-length, refusal-of-fields, numbers-accepted, decoded-accepted, decoded-refused}
+use Rattle.kinds.proofs.Refusals.{refusal-of-length, numbers-accepted}
+use Rattle.scenario.proofs.Decoding.{refusal-of-fields, decoded-accepted, decoded-refused}
 use Rattle.scenario.proofs.Said.{decoded-said}
 use Rattle.scenario.proofs.decode.Statement.{statement}
 use Rattle.scenario.proofs.decode.Tie as tie

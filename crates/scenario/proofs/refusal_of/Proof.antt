@@ -2,9 +2,9 @@
 use mathlib.Core.Path.{refl}
 use denote.Ref.{now}
 use borrow.Author.Needs.{needs}
-use Rattle.scenario.specs.Case.{headRefusals, quantityRefusals}
-use Rattle.scenario.specs.Patterns.{at}
-use Rattle.scenario.proofs.Refusals.{first-of-some, first-of-none}
+use Rattle.kinds.specs.Case.{headRefusals, quantityRefusals}
+use Rattle.kinds.specs.Patterns.{at}
+use Rattle.kinds.proofs.Refusals.{first-of-some, first-of-none}
 use Rattle.scenario.proofs.refusal_of.Statement.{statement}
 use Rattle.scenario.proofs.refusal_of.Tie as tie
 

@@ -1,7 +1,7 @@
 -- The definition.
 use borrow.Author.Needs.{needs}
-use Rattle.scenario.specs.Case.{notNumber}
-use Rattle.scenario.specs.Patterns.{addFaults}
+use Rattle.kinds.specs.Case.{notNumber}
+use Rattle.scenario.specs.Faults.{addFaults}
 use Rattle.scenario.proofs.quantities.add_faults.Statement.{statement}
 use Rattle.scenario.proofs.quantities.add_faults.Tie as tie
 

@@ -1,7 +1,7 @@
 -- One quantity after the other by its limit, and the law of limits held as patterns.
 use denote.Ref.{now}
 use borrow.Author.Needs.{needs}
-use Rattle.scenario.proofs.Limits.{faults-by-limits}
+use Rattle.scenario.proofs.Faults.{faults-by-limits}
 use Rattle.scenario.proofs.quantities.faults_of.Statement.{statement}
 use Rattle.scenario.proofs.quantities.faults_of.Tie as tie
 

@@ -1,8 +1,8 @@
 -- Where refusal 8 does not hold, each of the six is a number.
 use borrow.Author.Needs.{needs}
 use denote.Ref.{now}
-use Rattle.scenario.specs.Patterns.{at}
-use Rattle.scenario.proofs.Six.{each-finite}
+use Rattle.kinds.specs.Patterns.{at}
+use Rattle.kinds.proofs.Six.{each-finite}
 use Rattle.scenario.proofs.quantities.quantity_at.Statement.{statement}
 use Rattle.scenario.proofs.quantities.quantity_at.Tie as tie
 

@@ -1,6 +1,6 @@
 -- Each return: the conditions before it do not hold, its own does.
 use borrow.Author.Needs.{needs}
-use Rattle.scenario.proofs.Limits.{refused-by-faults, faults-numbers}
+use Rattle.scenario.proofs.Faults.{refused-by-faults, faults-numbers}
 use Rattle.scenario.proofs.quantities.quantity_refusal.Statement.{statement}
 use Rattle.scenario.proofs.quantities.quantity_refusal.Tie as tie
 

@@ -1,7 +1,7 @@
 -- By kind: what is added, or nothing.
 use borrow.Author.Needs.{needs}
-use Rattle.scenario.specs.Case.{kindAt, kinds, sumFrom, sumWithin, summedOf, sumOver}
-use Rattle.scenario.proofs.KindTable.{not-summed}
+use Rattle.kinds.specs.Case.{kindAt, kinds, sumFrom, sumWithin, summedOf, sumOver}
+use Rattle.kinds.proofs.KindTable.{not-summed}
 use Rattle.scenario.proofs.quantities.sum_over.Statement.{statement}
 use Rattle.scenario.proofs.quantities.sum_over.Tie as tie
 

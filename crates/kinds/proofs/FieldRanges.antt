@@ -1,0 +1,116 @@
+-- Row, route, user and T in plain numbers: what passes its test is exactly what Ranges allows.
+--   Passes, passes                                               what a refusal's test leaves
+--   by-table                                                     what Ranges says of a kind is what the table of kinds says, computed
+--   rows-exactly, routes-exactly, users-exactly, counts-exactly  a law for each field, both ways
+-- The quantities are in QuantityRanges, the whole case in Ranges.
+use mathlib.Core.Path.{_≡_, refl}
+use mathlib.Core.Bool.{Bool, true, false, not, _&&_, _||_, cond}
+use mathlib.Core.List.{List, [], _∷_, map}
+use mathlib.Core.Logic.{_⊎_, inl, inr}
+use Prim.Native.Nat.{ℕ, zero, suc, _<_}
+use native.Mathlib.Omega.{arith}
+use native.Mathlib.Nat.{le-of-suc-le-suc}
+use lib.Dec.{eqb}
+use lib.Ieee.{Float}
+use lib.ListN.{length, getD}
+use borrow.Author.Tests.{not-false, eqb-true, eqb-false, eq-eqb}
+use Rattle.octets.proofs.Bools.{both}
+use Rattle.kinds.specs.Case.{rowOf, userOf, countOf, patternAt, ofSix, quantityOf, Range, _to_, within, Listing, unlisted, upTo, ownUpTo, Kind, kinds, noKind, kindAt, rowUnknown, routeNotAllowed, userNotAllowed, countNotAllowed, sumFrom}
+use Rattle.kinds.specs.Ranges.{Between, ByRow, UpTo, ZeroBytes, OwnUpTo, AtMost1, NoSum, IsKind, Allows, allows, allowsNothing, allowedBy, Route}
+use Rattle.kinds.proofs.KindTable.{inside}
+
+-- ── tests in plain numbers
+
+-- the test does not refuse exactly where P holds
+abbrev pub Passes : Bool → Type 0 → Type 0
+Passes t P = (t ≡ false → P) × (P → t ≡ false)
+
+pub passes : {t : Bool} → t ≡ true → not t ≡ false
+passes e = rw e
+
+-- the test is passed exactly where P holds
+abbrev Shows : Bool → Type 0 → Type 0
+Shows t P = (t ≡ true → P) × (P → t ≡ true)
+
+pub refused : {t : Bool} {P : Type 0} → Shows t P → Passes (not t) P
+refused p = (λ e. p .0 (not-false _ e), λ h. passes (p .1 h))
+
+pub equal : (m n : ℕ) → Shows (eqb m n) (m ≡ n)
+equal m n = (eqb-true m n, eq-eqb m n)
+
+infixr 6 _and_
+_and_ : {s t : Bool} {P Q : Type 0} → Shows s P → Shows t Q → Shows (s && t) (P × Q)
+_and_ {s} {t} p q = (λ e. let h = both s t e in (p .0 (h .0), q .0 (h .1)), λ h. rw (p .1 (h .0), q .1 (h .1)))
+
+infixr 5 _or_
+_or_ : {s t : Bool} {P Q : Type 0} → Shows s P → Shows t Q → Shows (s || t) (P ⊎ Q)
+_or_ {s} {t} {P} {Q} p q = (go s refl, back)
+  where
+    go : (b : Bool) → s ≡ b → (b || t) ≡ true → P ⊎ Q
+    go true e h = inl (p .0 e)
+    go false e h = inr (q .0 h)
+
+    last : (b : Bool) → (b || true) ≡ true
+    last true = refl
+    last false = refl
+
+    back : P ⊎ Q → (s || t) ≡ true
+    back (inl h) = rw (p .1 h)
+    back (inr h) = rw (q .1 h) (last s)
+
+-- ── what the table says of a kind
+
+abbrev In : Range → ℕ → Type 0
+In r n = Between (r .from) (r .to) n
+
+abbrev pub Says : ℕ → Listing → ℕ → Type 0
+Says row unlisted p = ZeroBytes p
+Says row (upTo n) p = UpTo n p
+Says row (ownUpTo n) p = OwnUpTo row n p
+
+abbrev pub SumSays : List ℕ → List Float → Type 0
+SumSays [] xs = NoSum
+SumSays (i ∷ is) xs = AtMost1 (sumFrom (getD xs i (quantityOf 0)) (map (λ (j : ℕ). getD xs j (quantityOf 0)) is))
+
+abbrev pub tableSays : List ℕ → Kind → Allows
+tableSays b x =
+    let row = rowOf b in
+    let says : ℕ → Type 0 = (λ i. Says row (getD (x .quantities) i unlisted) (patternAt b i)) in
+    allows (In (x .rows) row) (In (x .users) (userOf b)) (ByRow row (In (x .ownCount) (countOf b)) (In (x .rowCount) (countOf b)))
+    (says 0 × says 1 × says 2 × says 3 × says 4 × says 5) (SumSays (x .summed) (ofSix (λ i. quantityOf (patternAt b i))))
+
+there : (f : Kind → Allows) (xs : List Kind) (i : ℕ) → i < length xs → getD (map f xs) i allowsNothing ≡ f (getD xs i noKind)
+there f [] i h = absurd (omega arith)
+there f (x ∷ xs) zero h = refl
+there f (x ∷ xs) (suc i) h = there f xs i (le-of-suc-le-suc h)
+
+pub by-table : (b : List ℕ) (k : ℕ) → IsKind k → allowedBy k b ≡ tableSays b (kindAt k)
+unfolding kindAt kinds sumFrom
+by-table b zero h = let z = h .0 in absurd (omega arith)
+by-table b (suc k) h = there (tableSays b) kinds k (h .1)
+
+-- ── each field
+
+pub routes-exactly : (k row route : ℕ) → Passes (routeNotAllowed k row route) (Route k row route)
+unfolding routeNotAllowed
+routes-exactly k row route = refused (equal route 1 or equal route 2 and inside (1 to 3) k and (equal row 0 or inside (3 to 7) row))
+
+by-row : (row : ℕ) (own paper : Range) (t : ℕ) → Passes (not (within (cond (eqb row 0) own paper) t)) (ByRow row (In own t) (In paper t))
+by-row row own paper t = go (eqb row 0) refl
+  where
+    go : (z : Bool) → eqb row 0 ≡ z → Passes (not (within (cond z own paper) t)) (ByRow row (In own t) (In paper t))
+    go true e = let z = eqb-true row 0 e in let p = refused (inside own t) in (λ h. (λ r. p .0 h, λ n. absurd (n z)), λ h. p .1 (h .0 z))
+    go false e = let n = eqb-false row 0 e in let p = refused (inside paper t) in (λ h. (λ z. absurd (n z), λ r. p .0 h), λ h. p .1 (h .1 n))
+
+module _ (b : List ℕ) (k : ℕ) (h : IsKind k) where
+  pub rows-exactly : Passes (rowUnknown k (rowOf b)) (allowedBy k b .row)
+  unfolding rowUnknown
+  rows-exactly = rw (by-table b k h) (refused (inside (kindAt k .rows) (rowOf b)))
+
+  pub users-exactly : Passes (userNotAllowed k (userOf b)) (allowedBy k b .user)
+  unfolding userNotAllowed
+  users-exactly = rw (by-table b k h) (refused (inside (kindAt k .users) (userOf b)))
+
+  pub counts-exactly : Passes (countNotAllowed k (rowOf b) (countOf b)) (allowedBy k b .count)
+  unfolding countNotAllowed
+  counts-exactly = rw (by-table b k h) (by-row (rowOf b) (kindAt k .ownCount) (kindAt k .rowCount) (countOf b))
