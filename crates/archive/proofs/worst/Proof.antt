@@ -1,9 +1,11 @@
 -- The tests are those of the list of refusals, in its order; the number is the search's.
-use mathlib.Core.Path.{refl, sym, ap, _∙_}
+use mathlib.Core.Path.{_≡_, refl, sym, ap, _∙_}
+use mathlib.Core.Bool.{true}
 use native.Mathlib.Omega.{arith}
 use borrow.Author.Needs.{needs}
 use borrow.Author.Tests.{eq-eqb, ne-eqb}
 use Rattle.records.specs.Lines.{worstOf}
+use Rattle.archive.specs.Conditions.{notCompartment}
 use Rattle.archive.specs.Answers.{named}
 use Rattle.archive.specs.Archive.{worstRefusals, naming}
 use Rattle.archive.specs.declared.Highest.the-variants.{Number}
@@ -15,7 +17,7 @@ use Rattle.archive.proofs.worst.Tie as tie
 
 returns : tie.Need-returns
 unfolding worstRefusals naming
-returns c = rw (c .if1 .taken) (refl, refl)
+returns c = let e : notCompartment (c .before .before .args .compartment) ≡ true = c .if1 .taken in rw e (refl, refl)
 
 returns-2 : tie.Need-returns-2
 unfolding worstRefusals naming
