@@ -1,6 +1,6 @@
--- Laws of the refusals of this crate's calls. The laws of any list of conditions are scenario's.
+-- Laws of the refusals of this crate's calls. The laws of any list of conditions are in crate kinds.
 -- `compartment-within` (12 does not hold); `full-exactly`, `full-short`, `full-most` (23 of a filing, in plain numbers).
--- A filing's list begins with the offer's own: `behind-own`; where none of all holds, `none-of-all`; of an offer within the ranges, `within-behind`; file's is then `from-state`, or else `case-refused`.
+-- A filing's list begins with the offer's own, of which none holds exactly where it is within the ranges, `own-exactly`: `behind-own`; where none of all holds, `none-of-all`; of an offer within the ranges, `within-behind`; file's is then `from-state`, or else `case-refused`.
 -- That a refusal is the first that holds is in `history`.
 use mathlib.Core.Path.{_≡_, refl, sym, _∙_}
 use mathlib.Core.Bool.{Bool, true, false, cond}

@@ -2,7 +2,7 @@
 --   constant-small                        each constant is at most 2 ^ 45
 --   older-positive, older-same            numbers of the older houses with row 0
 --   lost-fits                             a constant times the hundredths lost
---   figure-at, figure-sum-at, figure-lost what the code returns for a row is the exact value rounded up; `figure` and `figure-sum` are in Chains
+--   figure-at, figure-sum-at, figure-lost what the code returns for a row is the exact value rounded up; `figure` and `figure-sum` are in Multiplied
 use mathlib.Core.Path.{_≡_, ap}
 use mathlib.Core.Bool.{true, _&&_}
 use mathlib.Core.List.{List, [], _∷_}

@@ -1,5 +1,6 @@
 -- Demands 1 and 2 of single calls of the C interface, on any bytes and with any numbers.
--- `c-refusal-first`: the result is the number of the first condition of the call's list that holds, or 0, and then places and bytes are the stated ones.
+-- `c-refusal-first`: the result is the number of the first condition of the call's list that holds, or 0, and then places and bytes are the stated ones; the result and each
+-- variable of the call in plain terms: `CReturned`.
 -- `c-beside-a-refusal`: what each place then holds: the buffer as it was, the used length as given (empty: 0), zeros.
 -- `c-figure-bounds`: with the result 0 the figures in the caller's place are within demand 2's bounds.
 use mathlib.Core.Path.{_≡_, refl, sym, _∙_}

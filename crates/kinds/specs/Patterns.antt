@@ -1,4 +1,4 @@
--- What the functions of this crate hold in numbers: ranges by their ends, quantities and limits as patterns.
+-- What the functions of this crate and of scenario hold in numbers: ranges by their ends, quantities and limits as patterns.
 use mathlib.Core.Path.{_≡_}
 use mathlib.Core.Bool.{Bool, true, false, not, cond}
 use mathlib.Core.List.{List, [], _∷_, map}

@@ -1,7 +1,7 @@
 -- Laws of bytes stored one at a time, as splices.
 --   store-last, store-one         the last of some bytes, stored before the others; one byte
 --   digit-stored, first-stored    a number, its last digit first
--- Splices behind one another are in `Splice` of binary64.
+-- Splices behind one another are in `Splice` of octets.
 use mathlib.Core.Path.{_≡_, sym, ap, _∙_}
 use mathlib.Core.List.{List, [], _∷_, _++_, append-assoc}
 use Prim.Native.Nat.{ℕ, suc, _+_, _/_, _%_, _≤_, _<_}

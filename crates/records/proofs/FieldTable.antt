@@ -1,5 +1,5 @@
 -- The fields cover the record, each byte once: `fields-cover`; those of the case are the fields that it is written by: `fields-of-case`.
--- Writing a line leaves each field's bytes at its offset: `written-field`, and of any place in the case or of a figure `written-at`.
+-- Writing a line leaves each field's bytes at its offset: `written-field`, and of any place in the case or of a figure `written-at`; what was spliced in is read back: `read-back`.
 use mathlib.Core.Path.{_≡_, refl, sym, ap, _∙_}
 use mathlib.Core.Bool.{Bool, true, _&&_}
 use mathlib.Core.List.{List, [], _∷_, _++_, map}
