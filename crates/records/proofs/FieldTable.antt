@@ -1,5 +1,5 @@
 -- The fields cover the record, each byte once: `fields-cover`; those of the case are the fields that it is written by: `fields-of-case`.
--- Writing a line leaves each field's bytes at its offset: `written-field`, and of any place in the case or of a figure `written-at`; what was spliced in is read back: `read-back`.
+-- Writing a line leaves each field's bytes at its offset: `written-field`, and of any place in the case or of a figure `written-at`; what was spliced in is read back: `read-back`. Among figures: `figure-place`.
 use mathlib.Core.Path.{_≡_, refl, sym, ap, _∙_}
 use mathlib.Core.Bool.{Bool, true, _&&_}
 use mathlib.Core.List.{List, [], _∷_, _++_, map}
@@ -38,7 +38,7 @@ abbrev pub Placed : ℕ → ℕ → Source → Type 0
 Placed o w given = o + w ≤ 64
 Placed o w (figureAt k) = (o ≡ 64 + 8 * k) × (w ≡ 8) × (k < 4)
 
-figure-place : (fs : List ℕ) (k : ℕ) → k < length fs → bytesAt (figureBytes fs) (8 * k) 8 ≡ bytesOf 8 (getD fs k 0)
+pub figure-place : (fs : List ℕ) (k : ℕ) → k < length fs → bytesAt (figureBytes fs) (8 * k) 8 ≡ bytesOf 8 (getD fs k 0)
 unfolding figureBytes
 figure-place [] k h = absurd (not-suc-le-zero h)
 figure-place (f ∷ fs) zero h = take-at (bytesOf 8 f) (figureBytes fs) 8 (length-bytesOf 8 f)

@@ -50,7 +50,7 @@ pub fn is_broken(archive: &[u8], used: u64) -> bool
 }
 
 // Writes four figures from `at` on.
-fn put_figures(b: &mut [u8], at: usize, figures: [u64; 4])
+pub fn put_figures(b: &mut [u8], at: usize, figures: [u64; 4])
     requires { ⌜ at + 32 ≤ length (now b) ⌝ }
     ensures { λ _. ⌜ now (b .exit) ≡ splice (now (b .entry)) at (figureBytes figures) ⌝ }
 {
