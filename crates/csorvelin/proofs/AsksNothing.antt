@@ -11,12 +11,19 @@ use Rattle.csorvelin.proofs.csorvelin_show.Kinds as show-kinds
 use Rattle.csorvelin.proofs.csorvelin_show.Reads as show-reads
 use Rattle.csorvelin.proofs.csorvelin_worst.Kinds as worst-kinds
 use Rattle.csorvelin.proofs.csorvelin_worst.Reads as worst-reads
+use Rattle.csorvelin.proofs.csorvelin_load.Kinds as load-kinds
+use Rattle.csorvelin.proofs.csorvelin_load.Reads as load-reads
+use Rattle.csorvelin.proofs.csorvelin_export.Kinds as export-kinds
+use Rattle.csorvelin.proofs.csorvelin_export.Reads as export-reads
 
-pub asks-nothing : (κs₂ : Lfts 2) (κs₃ : Lfts 3) (κs₄ : Lfts 4) (o : kinds.Dens κs₂ work-out-kinds.ps) (e : kinds.Dens κs₂ empty-kinds.ps)
+pub asks-nothing : (κs₁ : Lfts 1) (κs₂ : Lfts 2) (κs₃ : Lfts 3) (κs₄ : Lfts 4) (o : kinds.Dens κs₂ work-out-kinds.ps) (e : kinds.Dens κs₂ empty-kinds.ps)
     (f : kinds.Dens κs₄ file-kinds.ps) (s : kinds.Dens κs₃ show-kinds.ps) (w : kinds.Dens κs₂ worst-kinds.ps)
+    (l : kinds.Dens κs₁ load-kinds.ps) (x : kinds.Dens κs₂ export-kinds.ps)
     → work-out-reads.Asked κs₂ o
     × empty-reads.Asked κs₂ e
     × file-reads.Asked κs₄ f
     × show-reads.Asked κs₃ s
     × worst-reads.Asked κs₂ w
-asks-nothing κs₂ κs₃ κs₄ o e f s w = (tt, tt, tt, tt, tt)
+    × load-reads.Asked κs₁ l
+    × export-reads.Asked κs₂ x
+asks-nothing κs₁ κs₂ κs₃ κs₄ o e f s w l x = (tt, tt, tt, tt, tt, tt, tt)

@@ -1,12 +1,15 @@
 // The C interface. Each call is total, returns the refusal's number or 0, and leaves every output with a stated value.
 // A slice is passed as a pointer and a length, in that order; include/csorvelin.h declares these functions for C.
 ghost use mathlib.Core.Path.{_≡_};
+ghost use Rattle.octets.specs.Bytes.{numberOf};
 ghost use Rattle.kinds.specs.Case.{refusalOf};
 ghost use Rattle.emission.specs.Figures.{figuresOf};
+ghost use Rattle.load.specs.Load.{LoadWithin, loadBytes};
 ghost use Rattle.records.specs.Layout.{bytesAt};
 ghost use Rattle.archive.specs.Offers.{offer};
 ghost use Rattle.archive.specs.Answers.{emptied, filed, named};
 ghost use Rattle.archive.specs.Archive.{emptyAnswer, emptyBytes, fileAnswer, fileBytes, showRefusal, showPart, worstAnswer};
+ghost use Rattle.export.specs.Export.{exportBytes, EachWithin};
 ghost use Rattle.csorvelin.specs.Place.{startShown, lengthShown};
 use archive::Emptied;
 use archive::Filing;
@@ -105,4 +108,31 @@ pub extern "C" fn csorvelin_worst(
             refusal
         }
     }
+}
+
+// The load of a figure. Nothing is refused.
+#[no_mangle]
+pub extern "C" fn csorvelin_load(figure: u64, load: &mut [u8; 8]) -> u32
+    ensures bytes { λ r. ⌜ (r ≡ 0) × (now (load .exit) ≡ loadBytes figure) ⌝ }
+    ensures within { λ r. ⌜ LoadWithin figure (numberOf (now (load .exit))) ⌝ }
+{
+    *load = load::load(figure);
+    0
+}
+
+// The loads of a record, zeros beside a refusal.
+#[no_mangle]
+pub extern "C" fn csorvelin_export(
+    archive: &[u8],
+    used: u64,
+    number: u64,
+    loads: &mut [u8; 32],
+) -> u32
+    ensures bytes { λ r. ⌜ (r ≡ showRefusal (now (archive .entry)) used number) × (now (loads .exit) ≡ exportBytes (now (archive .entry)) used number) ⌝ }
+    ensures within { λ r. ⌜ (r ≡ 0 → EachWithin (now (archive .entry)) number (now (loads .exit))) ⌝ }
+{
+    let exported = export::export(archive, used, number);
+    let bytes = exported.loads;
+    *loads = bytes;
+    exported.refusal
 }

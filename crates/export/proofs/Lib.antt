@@ -1,0 +1,5 @@
+-- Laws that this crate's proofs and the crates above cite.
+pub mod Loads
+pub mod EachLoad
+pub mod Examples
+pub mod Calls
