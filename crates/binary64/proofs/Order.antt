@@ -1,5 +1,5 @@
 -- Laws of order: patterns are in the order of their exact values.
--- `whole-increasing`, `order-of-patterns`, `limit-as-pattern`.
+-- `whole-increasing`, `whole-monotone`, `order-of-patterns`, `limit-as-pattern`.
 -- That a pattern has the exact value is in `Exact`.
 use mathlib.Core.Path.{_≡_, refl, sym, ap, _∙_}
 use Prim.Native.Nat.{ℕ, zero, suc, _+_, _*_, _/_, _^_, _≤_, _<_}
@@ -35,13 +35,14 @@ pub whole-increasing : (b c : ℕ) → b < c → whole b < whole c
 unfolding whole
 whole-increasing b c h = increasing (b / 2 ^ 52) (fractionOf b) (c / 2 ^ 52) (fractionOf c) (omega arith) (omega arith) (omega arith)
 
+pub whole-monotone : (b c : ℕ) → b ≤ c → whole b ≤ whole c
+whole-monotone b c h = ⊎-elim (λ (e : b ≡ c). rw e (le-refl (whole c))) (λ (l : b < c). le-of-lt (whole-increasing b c l)) (eq-or-lt-of-le h)
+
 pub order-of-patterns : (b k : ℕ) → leb b k ≡ leb (whole b) (whole k)
 order-of-patterns b k = go (leb b k) refl
   where
     go : (t : Bool) → leb b k ≡ t → t ≡ leb (whole b) (whole k)
-    go true e =
-        sym (le-leb (whole b) (whole k)
-        (⊎-elim (λ (p : b ≡ k). rw p (le-refl (whole k))) (λ (p : b < k). le-of-lt (whole-increasing b k p)) (eq-or-lt-of-le (leb-true b k e))))
+    go true e = sym (le-leb (whole b) (whole k) (whole-monotone b k (leb-true b k e)))
     go false e = sym (lt-leb (whole b) (whole k) (whole-increasing k b (leb-false b k e)))
 
 -- where k is the pattern of the number n, to be at most k is to be of a value at most n

@@ -16,7 +16,7 @@ use Rattle.cases.specs.Words.{wordsOf, placeIn}
 use Rattle.cases.specs.Fields.{areFields, withFields, plainNumber, recordIn, caseIn}
 
 unfoldable pub callNames : List (List ℕ)
-callNames = wordsOf (codes "empty used fill file record tear show worst list work-out")
+callNames = wordsOf (codes "empty used fill file record tear show worst list work-out load export")
 
 -- ── records put behind those that there are, whatever they hold
 

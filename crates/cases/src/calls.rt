@@ -8,6 +8,7 @@ use archive::Emptied;
 use archive::Filing;
 use archive::Highest;
 use libc::STDOUT_FILENO;
+use octets::u8_at;
 
 pub fn write(text: &[u8]) {
     io::write_all(STDOUT_FILENO, text);
@@ -99,6 +100,35 @@ pub fn worst(archive: &[u8], used: u64, compartment: u64) {
         Highest::Number(k) => write_number(b": number ", k),
         Highest::Refused(n) => write_refusal(n),
     }
+}
+
+// Bytes as they are, by eights.
+fn write_bytes(bytes: &[u8]) {
+    let mut i = 0;
+    while i < bytes.len() {
+        if i % 8 == 0 {
+            write(b" ");
+        }
+        io::print_hex(STDOUT_FILENO, u8_at(bytes, i) as u64, 2);
+        i += 1;
+    }
+}
+
+pub fn load(figure: u64) {
+    let load = load::load(figure);
+    write(b":");
+    write_bytes(&load);
+}
+
+// The four loads, beside a refusal too.
+pub fn export(archive: &[u8], used: u64, number: u64) {
+    let exported = export::export(archive, used, number);
+    if exported.refusal != 0 {
+        write_refusal(exported.refusal);
+    }
+    let loads = exported.loads;
+    write(b": loads");
+    write_bytes(&loads);
 }
 
 // Another byte at a place.

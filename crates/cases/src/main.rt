@@ -34,6 +34,8 @@ fn ask(call: usize, x: u64, case: &[u8], archive: &[u8], used: u64) {
         7 => calls::worst(archive, used, x),
         8 => lists::list(archive, used, x),
         9 => calls::work_out(case),
+        10 => calls::load(x),
+        11 => calls::export(archive, used, x),
         _ => write(b": no such call"),
     }
 }
@@ -92,7 +94,7 @@ fn by_text(text: &[u8], buffer: &mut [u8], s: State) -> State
     }
     let call = index_of(
         &text[..gap],
-        b"empty used fill file record tear show worst list work-out",
+        b"empty used fill file record tear show worst list work-out load export",
     );
     let size = size_after(call, u64_at(&fields, 0), s.size);
     let n = least(size, buffer.len());

@@ -1,20 +1,20 @@
 -- What is exported, of any bytes in which show finds no fault: `exported-load` (each load is that of its record's figure), `exported-within` (so it is the least that is
 -- not below the figure, and adds at most one part in 2 ^ 52). `exported-refused`: beside a refusal 32 zeros. `exported-length`: 32 bytes in any case.
 -- `found-shown`, `none-shown`: figures are found in what show lends exactly where it does not refuse.
-use mathlib.Core.Path.{_≡_, refl, sym, ap, _∙_, subst}
-use mathlib.Core.Bool.{Bool, true, false}
-use mathlib.Core.List.{List, [], _∷_}
-use Prim.Native.Nat.{ℕ, zero, suc, _+_, _*_, _^_, _<_}
+use mathlib.Core.Path.{_≡_, refl, ap, _∙_}
+use mathlib.Core.Bool.{true, false}
+use mathlib.Core.List.{List}
+use Prim.Native.Nat.{ℕ, zero, suc, _*_, _^_, _<_}
 use native.Mathlib.Omega.{arith}
 use lib.ListN.{length, getD, replicate}
-use Rattle.octets.specs.Bytes.{numberOf, numberAt}
-use Rattle.load.specs.Load.{LoadWithin, loadBytes}
+use Rattle.octets.specs.Bytes.{numberAt}
+use Rattle.load.specs.Load.{loadBytes}
 use Rattle.load.proofs.Least.{bytes-within}
 use Rattle.records.specs.Layout.{bytesAt}
 use Rattle.archive.specs.Archive.{showRefusal, showPart, isRecord, recordFigures}
 use Rattle.archive.proofs.AnswerLaws.{accepted-refused}
 use Rattle.archive.proofs.FiguresRead.{fourAt, shown-record, shown-no-record}
-use Rattle.export.specs.Export.{loadsOf, exportBytes, figureIn, patternIn, EachWithin}
+use Rattle.export.specs.Export.{loadsOf, exportBytes, figureIn, EachWithin}
 use Rattle.export.proofs.Loads.{loads-place, length-loads}
 
 pub exported-refused : (b : List ℕ) (u k : ℕ) → (showRefusal b u k ≡ 0 → ⊥) → exportBytes b u k ≡ replicate 32 0

@@ -1,7 +1,7 @@
 -- `edges-hold`: each load worked by pencil is that of its figure, and its pattern has that value. `load-in-order`: the lowest byte comes first.
 use mathlib.Core.Path.{_≡_, refl}
-use mathlib.Core.List.{List, [], _∷_, map}
-use Prim.Native.Nat.{ℕ, _*_}
+use mathlib.Core.List.{[], _∷_, map}
+use Prim.Native.Nat.{_*_}
 use lib.Count.{leadingZeros}
 use Rattle.natural.specs.Ceiling.{ceiling}
 use Rattle.octets.specs.Bytes.{bytesOf}

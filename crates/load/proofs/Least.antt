@@ -11,20 +11,16 @@ use native.Mathlib.Nat.{eq-or-lt-of-le, le-antisymm, not-le-of-lt, lt-of-not-le,
 use native.Mathlib.Omega.{arith}
 use lib.Pow.{pow-pos, pow-add}
 use lib.Count.{leadingZeros}
-use borrow.Author.Tests.{le-leb, leb-true}
 use Rattle.natural.specs.Ceiling.{ceiling}
 use Rattle.octets.specs.Bytes.{numberOf}
 use Rattle.octets.proofs.Numbers.{numberOf-bytesOf}
 use Rattle.binary64.specs.Pattern.{isUnsignedFinite}
 use Rattle.binary64.specs.Quantity.{wholeAt, whole, one}
 use Rattle.binary64.proofs.Exact.{unsigned-finite-exactly, whole-zero}
-use Rattle.binary64.proofs.Order.{whole-increasing, order-of-patterns}
+use Rattle.binary64.proofs.Order.{whole-increasing, whole-monotone}
 use Rattle.load.specs.Load.{IsLoad, LoadWithin, digits, significand, loadPattern, loadBytes}
 use Rattle.load.proofs.Shifted.{zerosBefore, shifted, Shifted, shifted-facts, few-digits, Rounded, rounded-facts}
 use Rattle.load.proofs.Value.{unit, value-on, value-of-figure, value-of-load, pattern-is}
-
-not-above : (b c : ℕ) → b ≤ c → whole b ≤ whole c
-not-above b c h = leb-true (whole b) (whole c) (sym (order-of-patterns b c) ∙ le-leb b c h)
 
 -- ── a figure that is not 0
 
@@ -57,7 +53,7 @@ module _ (n : ℕ) (p : 0 < n) (h : n < 2 ^ 64) where
           let m = significand n - 1 in
           let v = value-on n m s (omega (arith, s .top)) (omega (arith, r .high)) in
           let a : m * 2 ^ 11 * unit n < shifted n * unit n = mul-lt-mul-of-pos-right (omega (arith, r .near)) (pow-pos (1074 - zerosBefore n)) in
-          let b : whole c ≤ whole ((1021 + digits n) * 2 ^ 52 + m) = not-above c ((1021 + digits n) * 2 ^ 52 + m) (omega (arith, pattern-is n p)) in
+          let b : whole c ≤ whole ((1021 + digits n) * 2 ^ 52 + m) = whole-monotone c ((1021 + digits n) * 2 ^ 52 + m) (omega (arith, pattern-is n p)) in
           rw (value-of-figure n s) (omega arith)
 
   adds : (whole (loadPattern n) - n * one) * 2 ^ 52 ≤ n * one

@@ -1,10 +1,12 @@
 -- The load of a figure, as the fate model reads it: the smallest binary64 that is not below the figure, in micrograms.
 -- Request No. 1: "for any 64-bit figure, the smallest binary64 that is not below it, as eight little-endian bytes, all zero for 0".
-use mathlib.Core.Bool.{cond}
+use mathlib.Core.Bool.{false, cond}
 use mathlib.Core.List.{List}
 use Prim.Native.Nat.{ℕ, _+_, _-_, _*_, _^_, _≤_, _<_}
-use lib.Dec.{eqb}
+use lib.Dec.{T, eqb}
+use lib.IntN.{pos}
 use lib.Count.{leadingZeros}
+use lib.Ieee.{Float, fin, binary64, ofBits, le}
 use Rattle.natural.specs.Ceiling.{ceiling}
 use Rattle.octets.specs.Bytes.{bytesOf}
 use Rattle.binary64.specs.Quantity.{whole, one}
@@ -12,7 +14,6 @@ use Rattle.binary64.specs.Quantity.{whole, one}
 -- ── what a load is, by exact values over 2 ^ 1074
 
 -- The pattern's value is not below the figure, and that of each pattern before it is. `load-is-least` says it of `loadPattern`, `load-is-unique` that it is so of no other.
--- Patterns with a sign bit are behind all others, though their numbers are 0 or below: `load-smallest` is about every binary64.
 pub record IsLoad (figure pattern : ℕ) : Type 0 where
   pub not-below : figure * one ≤ whole pattern
   pub least : (before : ℕ) → before < pattern → whole before < figure * one
@@ -21,6 +22,17 @@ pub record IsLoad (figure pattern : ℕ) : Type 0 where
 pub record LoadWithin (figure pattern : ℕ) : Type 0 where
   pub is-load : IsLoad figure pattern
   pub adds : (whole pattern - figure * one) * 2 ^ 52 ≤ figure * one
+
+-- ── what it is among every binary64, by the library of IEEE 754
+
+-- a whole number as it is
+abbrev pub exactly : ℕ → Float
+exactly n = fin false n (pos 0)
+
+-- It is at least the figure, and at most any that is at least the figure. Each pattern is compared, with a sign bit, of an infinity, of a NaN too: `load-is-smallest`.
+pub record IsSmallest (figure pattern : ℕ) : Type 0 where
+  pub at-least : T (le (exactly figure) (ofBits binary64 pattern))
+  pub smallest : (other : ℕ) → T (le (exactly figure) (ofBits binary64 other)) → T (le (ofBits binary64 pattern) (ofBits binary64 other))
 
 -- ── which pattern that is, and its bytes
 

@@ -1,6 +1,6 @@
 -- Figures are found exactly where show refuses nothing; the loads are then those of what it hands out.
-use mathlib.Core.Path.{_≡_, refl, sym, ap, _∙_}
-use Prim.Native.Nat.{ℕ, _+_, _*_}
+use mathlib.Core.Path.{sym, ap, _∙_}
+use Prim.Native.Nat.{_+_, _*_}
 use borrow.Author.Needs.{needs}
 use Rattle.octets.proofs.Numbers.{numberAt-small}
 use Rattle.archive.specs.Archive.{isRecord, recordFigures}
