@@ -11,9 +11,10 @@
  *   - No pointer is null, not even beside a length of 0. A pointer to bytes
  *     points to at least as many readable bytes as the length beside it says
  *     (writable, too, for an archive that is not const).
- *   - What a call writes (a non-const archive, figures, *used, *number,
- *     *start, *length) overlaps nothing else that is passed to the same call.
- *     So a case that stands in the archive is copied out before it is filed.
+ *   - What a call writes (a non-const archive, figures, load, loads, *used,
+ *     *number, *start, *length) overlaps nothing else that is passed to the
+ *     same call. So a case that stands in the archive is copied out before it
+ *     is filed, and loads are not written into the archive they are read from.
  *   - uint64_t outputs are aligned as the compiler aligns a uint64_t. Bytes
  *     need no alignment.
  *   - A length is at most PTRDIFF_MAX.
@@ -22,9 +23,10 @@
  *     archives may run at the same time, and so may calls that only read one.
  *
  * Widths: refusals are uint32_t; figures, used lengths, record numbers, offsets
- * and compartments are uint64_t; lengths of memory are size_t. In cases,
- * records and trailers every number of more than one byte is little-endian;
- * the numbers in this interface are in the machine's own order.
+ * and compartments are uint64_t; lengths of memory are size_t; a load is eight
+ * bytes. In cases, records, trailers and loads every number of more than one
+ * byte is little-endian, whatever the machine; the numbers in this interface
+ * are in the machine's own order.
  */
 #ifndef CSORVELIN_H
 #define CSORVELIN_H
@@ -43,6 +45,8 @@ extern "C" {
 #define CSORVELIN_CASE_SIZE 64
 #define CSORVELIN_RECORD_SIZE 96
 #define CSORVELIN_TRAILER_SIZE 16
+#define CSORVELIN_LOAD_SIZE 8
+#define CSORVELIN_LOADS_SIZE 32 /* the four loads of a record */
 
 /* The most records that an archive may hold. */
 #define CSORVELIN_MOST_RECORDS 1000000
@@ -74,11 +78,11 @@ extern "C" {
 #define CSORVELIN_FRACTIONS_OVER_ONE 11  /* kind 5: the fractions to water, air and soil add up to over 1 */
 /* from the compartment: worst */
 #define CSORVELIN_COMPARTMENT_UNKNOWN 12 /* the compartment is not 1 to 4 */
-/* from the archive */
+/* from the archive: 21 in every call that is given a used length */
 #define CSORVELIN_BROKEN 21    /* used length and trailer are not those of an archive, or lie beyond the buffer */
 #define CSORVELIN_HELD 22      /* file: a record of the same filing is there already */
 #define CSORVELIN_NO_SPACE 23  /* file: under 96 bytes are free, or 1,000,000 records are there; empty: under 16 bytes */
-#define CSORVELIN_NO_RECORD 24 /* show: the number is not below the number of records; worst: there is no record */
+#define CSORVELIN_NO_RECORD 24 /* show, export: the number is not below the number of records; worst: there is no record */
 
 /*
  * Work out: the four figures of a case, in whole micrograms per day: sewage
@@ -126,6 +130,29 @@ uint32_t csorvelin_show(const uint8_t *archive, size_t size, uint64_t used,
  */
 uint32_t csorvelin_worst(const uint8_t *archive, size_t size, uint64_t used,
                          uint64_t compartment, uint64_t *number);
+
+/*
+ * Load: a figure in the form that a fate model reads: the smallest binary64
+ * that is not below it, as eight bytes, the lowest first. A figure up to 2^53
+ * is its own load, and that of 0 is eight zero bytes; above 2^53 a load may be
+ * higher than its figure, by at most one part in 2^52 of the figure. No load
+ * is infinite: the highest is 2^64. A cast to double is not the same: it
+ * rounds to nearest, and so comes out below many a figure.
+ * Refusals: none; every figure has a load, and 0 is returned.
+ */
+uint32_t csorvelin_load(uint64_t figure, uint8_t load[8]);
+
+/*
+ * Export: the loads of the four figures of the record of a number, counted
+ * from 0. The load of compartment m is loads[8 * m - 8] to loads[8 * m - 1].
+ * The figures are taken as they stand there, whatever they are; the case
+ * beside them is not looked at.
+ * Refusals, in this order: 21, 24. Beside a refusal the 32 bytes are 0 and
+ * count as no result. A record of four zero figures gives the same bytes: only
+ * the returned number tells the two apart.
+ */
+uint32_t csorvelin_export(const uint8_t *archive, size_t size, uint64_t used,
+                          uint64_t number, uint8_t loads[32]);
 
 #ifdef __cplusplus
 }

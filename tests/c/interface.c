@@ -1,6 +1,7 @@
 /* Calls every function of csorvelin.h and prints what each gives, and each
  * constant beside what the library itself has. The output is compared with
- * interface.expected, whose figures are exact values rounded up. */
+ * interface.expected, whose figures are exact values rounded up, and whose
+ * loads are the least patterns whose exact values are not below the figure. */
 #include <inttypes.h>
 #include <stdbool.h>
 #include <stdio.h>
@@ -35,6 +36,13 @@ static uint64_t pattern_of(double x)
     uint64_t pattern;
     memcpy(&pattern, &x, sizeof pattern);
     return pattern;
+}
+
+static double double_of(uint64_t pattern)
+{
+    double x;
+    memcpy(&x, &pattern, sizeof x);
+    return x;
 }
 
 static void make_case(uint8_t bytes[CSORVELIN_CASE_SIZE], const struct inputs *in)
@@ -110,16 +118,20 @@ static void work_out_all(void)
     }
 }
 
-/* A buffer with guard bytes on both sides, and a copy of it to compare with. */
-enum { GUARD = 8, SIZE = CSORVELIN_RECORD_SIZE * 3 + CSORVELIN_TRAILER_SIZE };
-static uint8_t memory[GUARD + SIZE + GUARD];
+/* A buffer and a place for loads with guard bytes on both sides, and a copy of
+ * it all to compare with. Neither begins at a multiple of 4, since bytes need
+ * no alignment. */
+enum { GUARD = 9, SIZE = CSORVELIN_RECORD_SIZE * 3 + CSORVELIN_TRAILER_SIZE, LOADS = SIZE + GUARD };
+static _Alignas(8) uint8_t memory[GUARD + LOADS + CSORVELIN_LOADS_SIZE + GUARD];
 static uint8_t copy[sizeof memory];
 static uint8_t *const archive = memory + GUARD;
+static uint8_t *const loads = memory + GUARD + LOADS;
 
+/* Offsets are counted from the archive's first byte. */
 static const char *outside(size_t from, size_t to)
 {
     bool same = memcmp(memory, copy, GUARD + from) == 0
-                && memcmp(archive + to, copy + GUARD + to, SIZE + GUARD - to) == 0;
+                && memcmp(archive + to, copy + GUARD + to, sizeof memory - GUARD - to) == 0;
     memcpy(copy, memory, sizeof memory);
     return same ? "rest unchanged" : "REST CHANGED";
 }
@@ -160,6 +172,68 @@ static void worst(uint64_t used, uint64_t compartment)
     uint64_t number = 99;
     uint32_t refusal = csorvelin_worst(archive, SIZE, used, compartment, &number);
     printf("worst: refusal %" PRIu32 ", number %" PRIu64 ", %s\n", refusal, number, outside(0, 0));
+}
+
+static void mark_loads(void)
+{
+    memset(loads, 0xa5, CSORVELIN_LOADS_SIZE);
+    memcpy(copy, memory, sizeof memory);
+}
+
+/* Each load by its bytes, then each as the number that it is. */
+static void print_loads(size_t size)
+{
+    printf(", bytes");
+    for (size_t i = 0; i < size; i++)
+        printf("%s%02x", i % CSORVELIN_LOAD_SIZE == 0 ? " " : "", loads[i]);
+    printf(", read back");
+    for (size_t i = 0; i < size; i += CSORVELIN_LOAD_SIZE)
+        printf(" %.0f", double_of(get_little_endian(loads + i, 8)));
+    printf(", %s\n", outside(LOADS, LOADS + size));
+}
+
+static void load(uint64_t figure)
+{
+    mark_loads();
+    uint32_t refusal = csorvelin_load(figure, loads);
+    printf("load of %" PRIu64 ": refusal %" PRIu32, figure, refusal);
+    print_loads(CSORVELIN_LOAD_SIZE);
+}
+
+static void export(size_t size, uint64_t used, uint64_t number)
+{
+    mark_loads();
+    uint32_t refusal = csorvelin_export(archive, size, used, number, loads);
+    printf("export: refusal %" PRIu32, refusal);
+    print_loads(CSORVELIN_LOADS_SIZE);
+}
+
+#define POWER(k) (UINT64_C(1) << (k))
+
+/* Figures that are doubles, that lie between two, and whose carry goes into the
+ * exponent; 0x0123456789abcdef shows the order of the bytes. */
+static const uint64_t figures_to_load[] = {
+    0, 1, 2, 3, 76923077,
+    POWER(53) - 1, POWER(53), POWER(53) + 1, POWER(53) + 2, POWER(53) + 3,
+    POWER(54) - 1, POWER(54), POWER(54) + 1, POWER(54) + 2, POWER(54) + 4,
+    UINT64_C(0x0123456789abcdef), UINT64_C(1000000000000000000), UINT64_C(1000000000000000001),
+    POWER(63) - 1, POWER(63), POWER(63) + 1,
+    UINT64_MAX - 4095, UINT64_MAX - 4094, UINT64_MAX - 2047, UINT64_MAX - 2046, UINT64_MAX,
+};
+
+static void load_all(void)
+{
+    for (size_t i = 0; i < sizeof figures_to_load / sizeof *figures_to_load; i++)
+        load(figures_to_load[i]);
+}
+
+/* Figures from outside, beside bytes that are no case. */
+static void overwrite(uint64_t number, const uint64_t figures[4])
+{
+    uint8_t *record = archive + CSORVELIN_RECORD_SIZE * number;
+    memset(record, 0xff, CSORVELIN_CASE_SIZE);
+    for (int i = 0; i < 4; i++)
+        put_little_endian(record + CSORVELIN_CASE_SIZE + 8 * i, figures[i], 8);
 }
 
 static void print_trailer(uint64_t used)
@@ -220,6 +294,15 @@ static uint64_t case_size(void)
     return sum;
 }
 
+/* How many bytes of the room are 0, which was filled with another before. */
+static uint64_t zeros_written(void)
+{
+    uint64_t count = 0;
+    for (size_t i = 0; i < sizeof room; i++)
+        count += room[i] == 0;
+    return count;
+}
+
 /* The one compartment in which a record is the worst and its case has a
  * figure; were there more, their sum. */
 static uint64_t compartment_of(uint64_t used, uint64_t record, const struct inputs *in)
@@ -270,12 +353,20 @@ static void compare_constants(void)
     for (size_t i = 0; i < sizeof refused / sizeof *refused; i++)
         compare(refused[i].name, refused[i].refusal, worked(&refused[i].in, figures));
 
+    memset(room, 0xa5, sizeof room);
+    COMPARE(CSORVELIN_ACCEPTED, csorvelin_load(0, room));
+    COMPARE(CSORVELIN_LOAD_SIZE, zeros_written());
+    memset(room, 0xa5, sizeof room);
+    COMPARE(CSORVELIN_BROKEN, csorvelin_export(zeros, sizeof zeros, sizeof zeros, 0, room));
+    COMPARE(CSORVELIN_LOADS_SIZE, zeros_written());
+
     COMPARE(CSORVELIN_NO_SPACE, csorvelin_empty(room, 0, &used));
     csorvelin_empty(room, sizeof room, &used);
     COMPARE(CSORVELIN_TRAILER_SIZE, used);
     COMPARE(CSORVELIN_USED_LENGTH(0), used);
     COMPARE(CSORVELIN_BROKEN, csorvelin_show(zeros, sizeof zeros, used, 0, &start, &length));
     COMPARE(CSORVELIN_NO_RECORD, csorvelin_show(room, sizeof room, used, 0, &start, &length));
+    COMPARE(CSORVELIN_NO_RECORD, csorvelin_export(room, sizeof room, used, 0, loads));
     COMPARE(CSORVELIN_NO_SPACE, filed((size_t)used, &used, &alone[0].in));
     for (size_t i = 0; i < sizeof alone / sizeof *alone; i++)
         filed(sizeof room, &used, &alone[i].in);
@@ -297,13 +388,17 @@ int main(void)
 
     memset(memory, 0xa5, sizeof memory);
     memcpy(copy, memory, sizeof memory);
+    load_all();
+
     show(CSORVELIN_USED_LENGTH(0), 0);
+    export(SIZE, CSORVELIN_USED_LENGTH(0), 0);
     empty(15);
     empty(SIZE);
     uint64_t used = CSORVELIN_USED_LENGTH(0);
     print_trailer(used);
     show(used, 0);
     worst(used, CSORVELIN_STP);
+    export(SIZE, used, 0);
 
     used = file(SIZE, used, &pencil[0]);
     show(used, 0);
@@ -326,6 +421,23 @@ int main(void)
     worst(used - 1, CSORVELIN_STP);
     show(UINT64_MAX, 0);
     file(SIZE, UINT64_MAX, &pencil[1]);
+
+    for (uint64_t number = 0; number < 3; number++)
+        export(SIZE, used, number);
+    export(SIZE, used, 3);
+    export(SIZE, used, POWER(32));
+    export(SIZE, used, UINT64_MAX);
+    export(SIZE, used - 1, 0);
+    export(SIZE, used + 1, 3);
+    export(SIZE, 0, 0);
+    export(SIZE, UINT64_MAX, UINT64_MAX);
+    export((size_t)used - 1, used, 0);
+    overwrite(0, (const uint64_t[4]){UINT64_MAX, POWER(53) + 1, UINT64_C(0x0123456789abcdef), 1});
+    overwrite(1, (const uint64_t[4]){0, 0, 0, 0});
+    for (uint64_t number = 0; number < 3; number++)
+        export(SIZE, used, number);
+    overwrite(2, (const uint64_t[4]){0, POWER(63) + 1, UINT64_MAX - 2047, UINT64_MAX - 2046});
+    export(SIZE, used, 2);
     empty(SIZE);
     return 0;
 }
