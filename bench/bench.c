@@ -80,8 +80,9 @@ static void report(const char *call, const char *input, double library, double p
         unit = "us";
         scale = 1000;
     }
-    printf("| %s | %s | %.*f %s | %.*f %s | %.2f |\n", call, input, scale == 1 ? 0 : 1,
-           library / scale, unit, scale == 1 ? 0 : 1, peer / scale, unit, library / peer);
+    int digits = library < 10 || scale != 1;
+    printf("| %s | %s | %.*f %s | %.*f %s | %.2f |\n", call, input, digits, library / scale, unit,
+           digits, peer / scale, unit, library / peer);
     fflush(stdout);
 }
 
@@ -259,6 +260,168 @@ static void bench_scans(uint64_t records)
     report("worst", input, median(library, SCAN_ROUNDS), median(peer, SCAN_ROUNDS));
 }
 
+/* ---- load and export */
+
+enum { FIGURES = 1024, LOAD_PASSES = 32 };
+static uint64_t to_load[FIGURES];
+
+typedef uint32_t load(uint64_t figure, uint8_t bytes[8]);
+typedef uint32_t export(const uint8_t *archive, size_t size, uint64_t used, uint64_t number,
+                        uint8_t loads[32]);
+
+/* of so many bits, the first one 1 and the others random */
+static uint64_t random_figure(int bits)
+{
+    return (random64() | UINT64_C(1) << 63) >> (64 - bits);
+}
+
+static void agree_on_load(uint64_t figure)
+{
+    uint8_t ours[CSORVELIN_LOAD_SIZE], theirs[CSORVELIN_LOAD_SIZE];
+    memset(ours, 1, sizeof ours);
+    memset(theirs, 2, sizeof theirs);
+    if (csorvelin_load(figure, ours) != peer_load(figure, theirs)
+        || memcmp(ours, theirs, sizeof ours) != 0)
+        fail("load");
+}
+
+/* What lies around each power of 2, where a carry goes into the exponent, and random figures of each length. Below 2^0
+ * come 0 and the last before 2^64. */
+static void agree_on_loads(void)
+{
+    for (int k = 0; k < 64; k++)
+        for (uint64_t d = 0; d <= 5000; d++) {
+            agree_on_load((UINT64_C(1) << k) + d);
+            agree_on_load((UINT64_C(1) << k) - d);
+            agree_on_load(random_figure(k + 1));
+        }
+    for (int i = 0; i < FIGURES; i++)
+        agree_on_load(to_load[i]);
+}
+
+/* On how many figures a cast is below: it gives a whole number, so that casting back is exact. */
+static int cast_below(void)
+{
+    int below = 0;
+    for (int i = 0; i < FIGURES; i++) {
+        double nearest;
+        uint8_t bytes[CSORVELIN_LOAD_SIZE];
+        cast_load(to_load[i], bytes);
+        memcpy(&nearest, bytes, sizeof nearest);
+        below += nearest < 0x1p64 && (uint64_t)nearest < to_load[i];
+    }
+    return below;
+}
+
+static double time_of_load(load *f)
+{
+    uint8_t bytes[CSORVELIN_LOAD_SIZE];
+    double before = now_ns();
+    for (int pass = 0; pass < LOAD_PASSES; pass++)
+        for (int i = 0; i < FIGURES; i++)
+            f(to_load[i], bytes);
+    return (now_ns() - before) / (LOAD_PASSES * FIGURES);
+}
+
+static void bench_load(void)
+{
+    double library[ROUNDS], peer[ROUNDS];
+    char input[2][64];
+    seed = 2; /* with and without GMP the same figures */
+    for (int i = 0; i < FIGURES; i++)
+        to_load[i] = random_figure(1 + i % 64);
+    agree_on_loads();
+    snprintf(input[0], sizeof input[0], "%d figures of 1 to 64 bits", FIGURES);
+    snprintf(input[1], sizeof input[1], "the same; the cast is below %d of them", cast_below());
+    for (int r = 0; r < ROUNDS; r++) {
+        library[r] = time_of_load(csorvelin_load);
+        peer[r] = time_of_load(peer_load);
+    }
+    report("load", input[0], median(library, ROUNDS), median(peer, ROUNDS));
+    for (int r = 0; r < ROUNDS; r++) {
+        library[r] = time_of_load(csorvelin_load);
+        peer[r] = time_of_load(cast_load);
+    }
+    report("load, beside a cast", input[1], median(library, ROUNDS), median(peer, ROUNDS));
+}
+
+static void put_random_figures(uint64_t records)
+{
+    for (uint64_t k = 0; k < records; k++)
+        for (int i = 0; i < 4; i++) {
+            uint64_t figure = random_figure(1 + (int)(random64() % 64));
+            memcpy(archive + CSORVELIN_RECORD_SIZE * k + CSORVELIN_CASE_SIZE + 8 * i, &figure, 8);
+        }
+}
+
+static void agree_on_export(size_t length, uint64_t used, uint64_t number)
+{
+    uint8_t ours[CSORVELIN_LOADS_SIZE], theirs[CSORVELIN_LOADS_SIZE];
+    memset(ours, 1, sizeof ours);
+    memset(theirs, 2, sizeof theirs);
+    if (csorvelin_export(archive, length, used, number, ours)
+            != peer_export(archive, length, used, number, theirs)
+        || memcmp(ours, theirs, sizeof ours) != 0)
+        fail("export");
+}
+
+/* Right and damaged archives of few records: every used length and every size around theirs, and each bit of the trailer. */
+static void agree_on_exports(void)
+{
+    for (uint64_t n = 0; n <= 3; n++) {
+        uint64_t used = fill(n);
+        const uint64_t numbers[] = {0, n - 1, n, n + (UINT64_C(1) << 32), UINT64_MAX};
+        put_random_figures(n);
+        for (size_t i = 0; i < sizeof numbers / sizeof *numbers; i++) {
+            for (uint64_t length = 0; length <= used + CSORVELIN_RECORD_SIZE; length++) {
+                agree_on_export(size, length, numbers[i]);
+                agree_on_export((size_t)length, used, numbers[i]);
+            }
+            agree_on_export(size, UINT64_MAX, numbers[i]);
+            for (int bit = 0; bit < 8 * CSORVELIN_TRAILER_SIZE; bit++) {
+                uint8_t *at = archive + used - CSORVELIN_TRAILER_SIZE + bit / 8;
+                *at ^= (uint8_t)(1 << bit % 8);
+                agree_on_export(size, used, numbers[i]);
+                *at ^= (uint8_t)(1 << bit % 8);
+            }
+        }
+    }
+}
+
+static double time_of_export(export *f, uint64_t used, uint64_t records)
+{
+    uint8_t loads[CSORVELIN_LOADS_SIZE];
+    double before = now_ns();
+    for (int pass = 0; pass < LOAD_PASSES; pass++)
+        for (uint64_t k = 0; k < records; k++)
+            if (f(archive, size, used, k, loads) != 0)
+                fail("export");
+    return (now_ns() - before) / (double)(LOAD_PASSES * records);
+}
+
+static void measure_export(const char *input, uint64_t records)
+{
+    double library[ROUNDS], peer[ROUNDS];
+    uint64_t used = CSORVELIN_USED_LENGTH(records);
+    for (uint64_t k = 0; k < records; k++)
+        agree_on_export(size, used, k);
+    for (int r = 0; r < ROUNDS; r++) {
+        library[r] = time_of_export(csorvelin_export, used, records);
+        peer[r] = time_of_export(peer_export, used, records);
+    }
+    report("export", input, median(library, ROUNDS), median(peer, ROUNDS));
+}
+
+/* Each of 1000 records in turn. */
+static void bench_export(void)
+{
+    agree_on_exports();
+    fill(1000);
+    measure_export("a figure and three zeros", 1000);
+    put_random_figures(1000);
+    measure_export("four figures of 1 to 64 bits", 1000);
+}
+
 int main(void)
 {
     printf("| call | input | library | peer | ratio |\n|---|---|---|---|---|\n");
@@ -276,6 +439,8 @@ int main(void)
     bench_scans(1000);
     bench_scans(100000);
     bench_scans(CSORVELIN_MOST_RECORDS);
+    bench_load();
+    bench_export();
     free(archive);
     return 0;
 }

@@ -17,4 +17,12 @@ uint32_t peer_file(uint8_t *archive, size_t size, uint64_t *used, const uint8_t 
 uint32_t peer_worst(const uint8_t *archive, size_t size, uint64_t used, uint64_t compartment,
                     uint64_t *number);
 
+/* Load and export in plain C. */
+uint32_t peer_load(uint64_t figure, uint8_t load[8]);
+uint32_t peer_export(const uint8_t *archive, size_t size, uint64_t used, uint64_t number,
+                     uint8_t loads[32]);
+
+/* No peer, but what one would write at first: a cast rounds to nearest, so what it gives may be below the figure. */
+uint32_t cast_load(uint64_t figure, uint8_t load[8]);
+
 #endif
