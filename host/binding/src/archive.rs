@@ -1,10 +1,11 @@
 //! An archive in memory: a buffer and its used length, and views of its records.
 
-use crate::case::{u64_at, Case, Figures, CASE_BYTES};
+use crate::case::{u64_at, Case, Figures, CASE_BYTES, LOAD_BYTES};
 use crate::{sys, Refusal};
 
 pub const RECORD_BYTES: usize = 96;
 pub const TRAILER_BYTES: usize = 16;
+pub const LOADS_BYTES: usize = 4 * LOAD_BYTES;
 
 /// A compartment, numbered in the order of the figures.
 #[derive(Clone, Copy, Debug, PartialEq, Eq)]
@@ -93,6 +94,14 @@ impl Archive {
         let mut number = 0;
         Refusal::check(sys::worst(&self.buffer, self.used, compartment.into(), &mut number))?;
         Ok(number)
+    }
+
+    /// The loads of a record's four figures, one behind the other in the order of the figures; of figures that are all 0
+    /// they are 32 zero bytes.
+    pub fn export(&self, number: u64) -> Result<[u8; LOADS_BYTES], Refusal> {
+        let mut loads = [0; LOADS_BYTES];
+        Refusal::check(sys::export(&self.buffer, self.used, number, &mut loads))?;
+        Ok(loads)
     }
 
     /// The records in filing order.

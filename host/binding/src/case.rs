@@ -3,6 +3,7 @@
 use crate::{sys, Refusal};
 
 pub const CASE_BYTES: usize = 64;
+pub const LOAD_BYTES: usize = 8;
 
 /// The seven kinds of case.
 #[derive(Clone, Copy, Debug, PartialEq, Eq)]
@@ -137,6 +138,15 @@ pub fn work_out(case: &[u8]) -> Result<Figures, Refusal> {
     let mut figures = [0; 4];
     Refusal::check(sys::work_out(case, &mut figures))?;
     Ok(figures.into())
+}
+
+/// The load of a figure, as a fate model reads it: the smallest binary64 number that is not below the figure, its pattern in
+/// little-endian bytes.
+pub fn load(figure: u64) -> [u8; LOAD_BYTES] {
+    let mut load = [0; LOAD_BYTES];
+    let refusal = sys::load(figure, &mut load);
+    assert_eq!(refusal, 0, "every figure has a load");
+    load
 }
 
 #[cfg(test)]

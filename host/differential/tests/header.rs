@@ -1,7 +1,8 @@
 //! The numbers of the binding are those of the C header, each by its name, and the header has no others. MOST_RECORDS,
 //! which the binding has no use for, is the model's.
 
-use csorvelin_binding::{sys, Compartment, Refusal, CASE_BYTES, RECORD_BYTES, TRAILER_BYTES, VERSION};
+use csorvelin_binding::{sys, Compartment, Refusal, VERSION};
+use csorvelin_binding::{CASE_BYTES, LOADS_BYTES, LOAD_BYTES, RECORD_BYTES, TRAILER_BYTES};
 use csorvelin_model::archive::MOST_RECORDS;
 
 const HEADER: &str = include_str!("../../../include/csorvelin.h");
@@ -58,6 +59,8 @@ fn numbers_of_the_header() {
         ("CASE_SIZE", CASE_BYTES.to_string()),
         ("RECORD_SIZE", RECORD_BYTES.to_string()),
         ("TRAILER_SIZE", TRAILER_BYTES.to_string()),
+        ("LOAD_SIZE", LOAD_BYTES.to_string()),
+        ("LOADS_SIZE", LOADS_BYTES.to_string()),
         ("MOST_RECORDS", MOST_RECORDS.to_string()),
         ("USED_LENGTH(n)", "((uint64_t)CSORVELIN_RECORD_SIZE * (uint64_t)(n) + CSORVELIN_TRAILER_SIZE)".to_string()),
         ("ACCEPTED", accepted.to_string()),
