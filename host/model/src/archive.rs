@@ -1,12 +1,14 @@
-//! The archive over plain bytes: empty, file, show and worst on a buffer of any size and content, with any used length.
+//! The archive over plain bytes: empty, file, show, worst and export on a buffer of any size and content, with any used length.
 
 use crate::case::{little_endian, same_filing, CASE_BYTES};
 use crate::equations::work_out;
+use crate::load::{load, LOAD_BYTES};
 
 pub const RECORD_BYTES: u64 = 96;
 pub const TRAILER_BYTES: u64 = 16;
 pub const EDITION: u64 = 1;
 pub const MOST_RECORDS: u64 = 1_000_000;
+pub const LOADS_BYTES: usize = 4 * LOAD_BYTES;
 
 /// A case and its four figures, 96 bytes.
 pub fn record(case: &[u8], figures: &[u64; 4]) -> Vec<u8> {
@@ -118,4 +120,21 @@ pub fn worst(buffer: &[u8], used: u64, compartment: u64) -> (u32, u64) {
         None => (24, 0),
         Some(number) => (0, number),
     }
+}
+
+/// Refusal, and the loads of a record's four figures; zeros beside a refusal.
+pub fn export(buffer: &[u8], used: u64, number: u64) -> (u32, [u8; LOADS_BYTES]) {
+    let mut loads = [0; LOADS_BYTES];
+    let refusal = match count(buffer, used) {
+        None => 21,
+        Some(n) if number >= n => 24,
+        Some(_) => {
+            let figures = figures_of(record_at(buffer, number));
+            for (place, figure) in loads.chunks_mut(LOAD_BYTES).zip(figures) {
+                place.copy_from_slice(&load(figure));
+            }
+            0
+        }
+    };
+    (refusal, loads)
 }
