@@ -1,6 +1,6 @@
 //! The library's calls, answering every output. The outputs hold other values before, so that one left unwritten shows.
 
-use csorvelin_binding::sys;
+use csorvelin_binding::{sys, LOADS_BYTES, LOAD_BYTES};
 
 const UNWRITTEN: u64 = 0xa5a5_5a5a_c3c3_3c3c;
 
@@ -37,4 +37,18 @@ pub fn worst(buffer: &[u8], used: u64, compartment: u64) -> (u32, u64) {
     let mut number = UNWRITTEN;
     let refusal = sys::worst(buffer, used, compartment, &mut number);
     (refusal, number)
+}
+
+/// Refusal and load.
+pub fn load(figure: u64) -> (u32, [u8; LOAD_BYTES]) {
+    let mut load = UNWRITTEN.to_le_bytes();
+    let refusal = sys::load(figure, &mut load);
+    (refusal, load)
+}
+
+/// Refusal and loads.
+pub fn export(buffer: &[u8], used: u64, number: u64) -> (u32, [u8; LOADS_BYTES]) {
+    let mut loads = [UNWRITTEN as u8; LOADS_BYTES];
+    let refusal = sys::export(buffer, used, number, &mut loads);
+    (refusal, loads)
 }

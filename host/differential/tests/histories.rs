@@ -1,10 +1,11 @@
 //! Histories on one buffer, refused calls included: every answer against the ledger, every byte, guard bytes included,
-//! against the model's archive.
+//! against the model's archive. Export, which is no call of a history, comes between and changes nothing.
 
 use csorvelin_differential::{calls, cases, guarded::Guarded, random::Random};
 use csorvelin_model::archive;
 use csorvelin_model::case::Case;
 use csorvelin_model::ledger::Ledger;
+use csorvelin_model::load::load;
 use std::collections::BTreeMap;
 
 /// How often each call answered each refusal, 0 for none.
@@ -57,6 +58,16 @@ impl History {
         self.meet("show", refusal);
     }
 
+    /// The loads of what the line of that number holds.
+    fn export(&mut self, number: u64) {
+        let (refusal, loads) = calls::export(self.buffer.buffer(), self.used, number);
+        assert_eq!((refusal, loads), archive::export(self.buffer.image(), self.used, number));
+        let line = self.ledger.lines.get(usize::try_from(number).unwrap());
+        let held = line.map(|line| line.figures.map(load).concat());
+        assert_eq!((refusal, loads.to_vec()), held.map_or((24, vec![0; 32]), |held| (0, held)));
+        self.meet("export", refusal);
+    }
+
     fn worst(&mut self, compartment: u64) {
         let answer = calls::worst(self.buffer.buffer(), self.used, compartment);
         assert_eq!(answer, archive::worst(self.buffer.image(), self.used, compartment));
@@ -100,11 +111,15 @@ impl History {
                 let case = self.held();
                 self.file(&case);
             }
-            12..=15 => {
+            choice @ 12..=16 => {
                 let lines = self.ledger.lines.len() as u64;
                 let numbers = [0, lines.wrapping_sub(1), lines, self.random.below(lines + 1), 1 << 32, u64::MAX];
                 let number = self.random.pick(&numbers);
-                self.show(number);
+                if choice < 15 {
+                    self.show(number);
+                } else {
+                    self.export(number);
+                }
             }
             _ => {
                 let compartment = self.random.pick(&[1, 2, 3, 4, 1, 2, 3, 4, 0, 5, 257, 1 << 32 | 1, u64::MAX]);
@@ -148,7 +163,7 @@ fn small_buffers_of_every_size() {
     for key in [("file", 0), ("file", 1), ("file", 8), ("file", 22), ("file", 23), ("empty", 0)] {
         assert!(all.get(&key).copied().unwrap_or(0) >= 100, "{key:?} in {all:?}");
     }
-    for key in [("show", 0), ("show", 24), ("worst", 0), ("worst", 12), ("worst", 24)] {
+    for key in [("show", 0), ("show", 24), ("export", 0), ("export", 24), ("worst", 0), ("worst", 12), ("worst", 24)] {
         assert!(all.get(&key).copied().unwrap_or(0) >= 100, "{key:?} in {all:?}");
     }
     assert!(all.keys().all(|&(_, refusal)| refusal != 21), "21 in a history");
@@ -229,6 +244,7 @@ fn buffers_under_sixteen_bytes() {
             }
             for number in [0, 1, u64::MAX] {
                 assert_eq!(calls::show(history.buffer.buffer(), used, number), (21, 0, 0));
+                assert_eq!(calls::export(history.buffer.buffer(), used, number), (21, [0; 32]));
                 assert_eq!(calls::worst(history.buffer.buffer(), used, 1), (21, 0));
                 assert_eq!(calls::worst(history.buffer.buffer(), used, 5), (12, 0));
             }

@@ -23,12 +23,14 @@ fn compare(content: &[u8], used: u64, random: &mut Random) -> u32 {
     for number in [0, 1, 2, 3, 1 << 32, u64::MAX] {
         let answer = calls::show(buffer.buffer(), used, number);
         assert_eq!(answer, archive::show(content, used, number), "show {number}, used {used}");
+        let answer = calls::export(buffer.buffer(), used, number);
+        assert_eq!(answer, archive::export(content, used, number), "export {number}, used {used}");
     }
     for compartment in [0, 1, 2, 3, 4, 5, u64::MAX] {
         let answer = calls::worst(buffer.buffer(), used, compartment);
         assert_eq!(answer, archive::worst(content, used, compartment), "worst {compartment}, used {used}");
     }
-    assert!(buffer.agrees(), "show or worst changed a byte");
+    assert!(buffer.agrees(), "show, export or worst changed a byte");
     let case = cases::valid(random).encode();
     let answer = calls::file(buffer.buffer(), used, &case);
     assert_eq!(answer, archive::file(buffer.image(), used, &case), "file, used {used}");
@@ -148,6 +150,7 @@ fn a_million_records() {
         content[used as usize - 16..used as usize].copy_from_slice(&archive::trailer(n));
         for number in [0, n - 1, n] {
             assert_eq!(calls::show(&content, used, number), archive::show(&content, used, number));
+            assert_eq!(calls::export(&content, used, number), archive::export(&content, used, number));
         }
         for compartment in 1..=4 {
             let answer = calls::worst(&content, used, compartment);
@@ -167,6 +170,7 @@ fn a_million_records() {
             assert_eq!(content[start..start + 96], archive::record(&case, &figures));
             assert_eq!(content[start + 96..start + 112], archive::trailer(n + 1));
             assert_eq!(calls::worst(&content, after, 1), archive::worst(&content, after, 1));
+            assert_eq!(calls::export(&content, after, n), archive::export(&content, after, n));
             assert_eq!(calls::file(&mut content, after, &case), (22, 0, after));
         }
     }

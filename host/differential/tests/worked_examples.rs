@@ -1,6 +1,6 @@
 //! The pencil cases and edges of the requirements, through the library.
 
-use csorvelin_binding::{work_out, Archive, Case, Compartment, Figures, Kind, Quantity, Refusal};
+use csorvelin_binding::{load, work_out, Archive, Case, Compartment, Figures, Kind, Quantity, Refusal};
 use Quantity::{A, B, C, D, E};
 
 fn figures(case: &Case) -> [u64; 4] {
@@ -53,6 +53,7 @@ fn edges() {
     assert_eq!(refusal(&Case::new(Kind::LeachingUnknown, 2, 7).route(2)), Some(4));
     assert_eq!(refusal(&Case::new(Kind::LeachingUnknown, 3, 7).route(2)), None);
     assert_eq!(Archive::new().show(0), Err(Refusal::NoRecord));
+    assert_eq!(Archive::new().export(0), Err(Refusal::NoRecord));
 }
 
 #[test]
@@ -77,4 +78,22 @@ fn an_archive_by_the_safe_calls() {
         let cut_short = archive.bytes()[..cut].to_vec();
         assert_eq!(Archive::from_bytes(cut_short).err(), Some(Refusal::NotAnArchive));
     }
+}
+
+#[test]
+fn loads_by_the_safe_calls() {
+    let mut archive = Archive::new();
+    archive.file(&p8().to_bytes()).unwrap();
+    archive.file(&p1().with(B, 1.).to_bytes()).unwrap();
+    let before = archive.bytes().to_vec();
+    let kilograms = [4f64, 0., 2., 1.].map(|kilograms| (kilograms * 1e9).to_le_bytes());
+    assert_eq!(archive.export(0).unwrap(), kilograms.as_flattened());
+    assert_eq!(figures(&p8()).map(load), kilograms);
+    // Four figures of 0 have loads; a record that is not there has none.
+    assert_eq!(archive.export(1), Ok([0; 32]));
+    for number in [2, 1 << 32, u64::MAX] {
+        assert_eq!(archive.export(number), Err(Refusal::NoRecord));
+    }
+    assert_eq!(archive.bytes(), before);
+    assert_eq!(load(u64::MAX), (2f64.powi(64)).to_le_bytes());
 }
