@@ -115,10 +115,9 @@ fn figures_of_every_length() {
     let mut random = Random::new(701);
     for length in 1..=64 {
         let met = lying((0..1500).map(|_| of_length(length, &mut random)));
-        let all_exact = met.keys().eq(&[Lies::Exact]);
-        // Of 53 digits, 2^53 may come of one that is added.
-        assert_eq!(all_exact, length <= 53, "{length}: {met:?}");
-        assert_eq!(met.len(), if all_exact { 1 } else { 3 }, "{length}: {met:?}");
+        let all = [Lies::Exact, Lies::Above, Lies::CastBelow];
+        let possible = if length <= 53 { &all[..1] } else { &all };
+        assert!(met.keys().eq(possible), "{length}: {met:?}");
     }
 }
 
@@ -130,7 +129,7 @@ fn figures_beside_powers_of_two() {
             check(power + beside);
         }
         // All ones, and those with one of them missing.
-        let ones = power - 1 | power;
+        let ones = 2 * (power - 1) + 1;
         for bit in 0..64 {
             check(ones & !(1 << bit));
         }
@@ -162,6 +161,18 @@ fn figures_beside_the_grid_and_its_ties() {
                 check(figure - 1);
             }
         }
+    }
+}
+
+#[test]
+fn a_load_between_guard_bytes() {
+    let mut random = Random::new(709);
+    for length in 0..=64 {
+        let figure = if length == 0 { 0 } else { of_length(length, &mut random) };
+        let mut place = Guarded::new(&random.bytes(LOAD_BYTES), &mut random);
+        assert_eq!(sys::load(figure, place.buffer().try_into().expect("the place for a load")), 0);
+        place.image().copy_from_slice(&load(figure));
+        assert!(place.agrees(), "{figure}");
     }
 }
 
@@ -210,7 +221,7 @@ fn records_of_any_content() {
     for n in 0..40 {
         let mut content = foreign(n, &mut random);
         let used = content.len() as u64;
-        content.extend(random.bytes(random_rest(n)));
+        content.extend(random.bytes([0, 1, 15, 96, 131][n as usize % 5]));
         for number in 0..n {
             assert_eq!(export(&content, used, number, &mut random), 0);
             // Four loads in the order of the figures, each that of its own.
@@ -224,18 +235,14 @@ fn records_of_any_content() {
     }
 }
 
-/// So many bytes behind an archive, none behind some.
-fn random_rest(n: u64) -> usize {
-    [0, 1, 15, 96, 131][n as usize % 5]
-}
-
 #[test]
 fn used_lengths_that_are_not_the_archive_s() {
     let mut random = Random::new(705);
-    for n in 0..6 {
+    // The archive fills its buffer, or bytes stand behind it.
+    for (n, rest) in (0..6).flat_map(|n| [(n, 0), (n, 150)]) {
         let mut content = foreign(n, &mut random);
         let used = content.len() as u64;
-        content.extend(random.bytes(150));
+        content.extend(random.bytes(rest));
         let every = 0..content.len() as u64 + 100;
         let far = [(1 << 32) + used, 1 << 63 | used, u64::MAX - 95, u64::MAX - 15, u64::MAX];
         for other in every.chain(far).filter(|&other| other != used) {

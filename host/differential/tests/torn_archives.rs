@@ -87,6 +87,11 @@ fn every_used_length() {
         accepted += u32::from(compare(&content, used, &mut random) != 21);
     }
     assert_eq!(accepted, 1);
+    // Nothing stands behind the archive, and the used length reaches beyond it.
+    let sound = whole(3, &mut random);
+    for used in sound.len() as u64 + 1..sound.len() as u64 + 100 {
+        assert_eq!(compare(&sound, used, &mut random), 21);
+    }
     for used in [1 << 32, (1 << 32) + 304, u64::MAX - 96, u64::MAX - 95, u64::MAX - 15, u64::MAX - 1, u64::MAX] {
         assert_eq!(compare(&content, used, &mut random), 21);
     }
