@@ -44,7 +44,7 @@ const fn form(option: Opt, name: &'static str, values: &'static [&'static str], 
 
 pub const OPTIONS: [Form; 15] = [
     form(Opt::Case, "--case", &["FILE"], "takes the case from a file of 64 bytes (- is standard input)"),
-    form(Opt::Out, "--out", &["FILE"], "writes the case to a new file of 64 bytes"),
+    form(Opt::Out, "--out", &["FILE"], "writes to a new file: the 64 bytes of a case, or the 32 of an export"),
     form(
         Opt::Exact,
         "--exact",

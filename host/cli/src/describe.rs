@@ -1,9 +1,9 @@
-//! A case and its figures as text and as JSON.
+//! A case, its figures and their loads as text and as JSON.
 
 use crate::arguments::Typed;
 use crate::json::Json;
 use crate::numbers;
-use csorvelin_binding::{Case, Figures, Record};
+use csorvelin_binding::{Case, Figures, Record, LOADS_BYTES, LOAD_BYTES};
 use csorvelin_model::case::QUANTITIES;
 use csorvelin_model::ranges::{self, Listed};
 use csorvelin_model::tables;
@@ -157,6 +157,41 @@ pub fn record_json(number: u64, record: &Record) -> Json {
 pub fn figures_json(figures: Figures) -> Json {
     let entries = FIGURE_NAMES.iter().zip(<[u64; 4]>::from(figures));
     Json::Object(entries.map(|(name, figure)| (name.to_string(), Json::from(figure))).collect())
+}
+
+/// The name of each compartment, the pattern of its load, and the figure that this comes from.
+fn named_loads(loads: &[u8; LOADS_BYTES], figures: Figures) -> impl Iterator<Item = (&'static str, u64, u64)> + '_ {
+    let patterns = loads.as_chunks::<LOAD_BYTES>().0.iter().map(|&load| u64::from_le_bytes(load));
+    let figures = <[u64; 4]>::from(figures).into_iter();
+    FIGURE_NAMES.into_iter().zip(patterns.zip(figures)).map(|(name, (load, figure))| (name, load, figure))
+}
+
+/// A line for each load in micrograms, with its pattern and the figure, and the bytes of all four.
+pub fn loads_text(loads: &[u8; LOADS_BYTES], figures: Figures) -> String {
+    let mut text = String::new();
+    for (name, load, figure) in named_loads(loads, figures) {
+        let above = numbers::deviation(&figure.to_string(), load) == Some("above");
+        let (exact, rounded) = (numbers::exact_pattern(load), if above { ", rounded up" } else { "" });
+        text += &format!("{name:<9}{exact} µg per day ({load:#018x})  figure {figure}{rounded}\n");
+    }
+    text + &format!("bytes    {}\n", hex(loads))
+}
+
+/// The loads of a record, each with the figure that it comes from.
+pub fn loads_json(number: u64, loads: &[u8; LOADS_BYTES], figures: Figures) -> Json {
+    let entries = named_loads(loads, figures).map(|(name, load, figure)| {
+        let value = Json::object([
+            ("pattern", Json::from(format!("{load:#018x}"))),
+            ("exact", Json::from(numbers::exact_pattern(load))),
+            ("figure", Json::from(figure)),
+        ]);
+        (name.to_string(), value)
+    });
+    Json::object([
+        ("record", Json::from(number)),
+        ("loads", Json::Object(entries.collect())),
+        ("bytes", Json::from(hex(loads))),
+    ])
 }
 
 /// So many of something: one record, two records.

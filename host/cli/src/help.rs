@@ -79,9 +79,9 @@ pub fn refusals() -> String {
     let refusals: String = refusals.collect();
     format!(
         "Refusals, which are exit statuses too. The first that holds is told, in this order:\n\
-         work-out, explain and case look for 1 to 11; file and import for 1 to 11, 21, 22, 23; show and\n\
-         explain of a record for 21, 24; worst for 12, 21, 24; list and verify for 21. A refusal gives no\n\
-         figure and changes no byte of the archive.\n\n{refusals}"
+         work-out, explain and case look for 1 to 11; file and import for 1 to 11, 21, 22, 23; show,\n\
+         export and explain of a record for 21, 24; worst for 12, 21, 24; list and verify for 21. A\n\
+         refusal gives no figure and no load, and changes no byte of the archive.\n\n{refusals}"
     )
 }
 

@@ -44,7 +44,7 @@ fn file_list_show_and_worst() {
 fn refusals_from_the_state() {
     let place = Place::new("state");
     place.run(&["new", "archive"]).ends(0);
-    for words in [["show", "archive", "0"], ["worst", "archive", "1"]] {
+    for words in [["show", "archive", "0"], ["worst", "archive", "1"], ["export", "archive", "0"]] {
         let ran = place.run(&words);
         assert!(ran.ends(24).err.starts_with("refused 24: there is no such record"), "{}", ran.err);
     }
@@ -81,7 +81,9 @@ fn a_record_whose_figures_were_changed_is_found_by_explain() {
     let ran = place.run(&["explain", "archive", "0", "--json"]);
     assert!(ran.ends(65).out.ends_with(&record_json("76923076", fault)), "{}", ran.out);
     // Those that print what a record holds do not check it.
-    for words in [&["show", "archive", "0"][..], &["list", "archive"], &["worst", "archive", "1"]] {
+    let printing: [&[&str]; 4] =
+        [&["show", "archive", "0"], &["list", "archive"], &["worst", "archive", "1"], &["export", "archive", "0"]];
+    for words in printing {
         place.run(words).ends(0);
     }
 }
@@ -135,7 +137,7 @@ fn refusal_21_names_the_point_that_is_wrong() {
     }
     for (bytes, found) in files {
         place.write("archive", &bytes);
-        for words in [&["show", "archive", "0"][..], &["list", "archive"]] {
+        for words in [&["show", "archive", "0"][..], &["export", "archive", "0"], &["list", "archive"]] {
             let ran = place.run(words);
             assert!(ran.ends(21).err.contains(&format!("  found    {found}\n")), "{found}\n{}", ran.err);
         }
@@ -158,10 +160,15 @@ fn damaged_files_are_refused_and_never_written() {
     for (index, bytes) in cuts.chain(flips).chain(longer).enumerate() {
         place.write("archive", &bytes);
         let file = [&["file", "archive"], &P1[..]].concat();
-        let commands: [&[&str]; 4] =
-            [&file, &["show", "archive", "0"], &["worst", "archive", "1"], &["list", "archive"]];
-        // Filing each time, one of the three that only read in turn.
-        for words in [commands[0], commands[1 + index % 3]] {
+        let commands: [&[&str]; 5] = [
+            &file,
+            &["show", "archive", "0"],
+            &["worst", "archive", "1"],
+            &["list", "archive"],
+            &["export", "archive", "0", "--out", "loads"],
+        ];
+        // Filing each time, one of the four that leave the archive alone in turn.
+        for words in [commands[0], commands[1 + index % 4]] {
             let ran = place.run(words);
             ran.ends(21);
             assert!(ran.err.starts_with("refused 21: "), "{}", ran.err);
@@ -227,7 +234,7 @@ fn list_prints_what_the_proved_program_prints() {
 fn standard_input_is_read_for_a_dash() {
     let place = Place::new("standard_input");
     let bytes = archive_of(3, &mut Random::new(304));
-    for words in [["list", "-", ""], ["show", "-", "2"], ["worst", "-", "stp"]] {
+    for words in [["list", "-", ""], ["show", "-", "2"], ["worst", "-", "stp"], ["export", "-", "2"]] {
         let words: Vec<&str> = words.into_iter().filter(|word| !word.is_empty()).collect();
         let mut command = place.command(&words);
         let mut child = command.stdin(Stdio::piped()).stdout(Stdio::piped()).stderr(Stdio::piped()).spawn().unwrap();

@@ -275,8 +275,10 @@ fn json_answers() {
     assert!(ran.ends(64).out.starts_with("{\"error\":64,"), "{}", ran.out);
 }
 
-const COMMANDS: [&str; 12] =
-    ["work-out", "explain", "case", "new", "file", "import", "show", "list", "worst", "verify", "defaults", "help"];
+const COMMANDS: [&str; 13] = [
+    "work-out", "explain", "case", "new", "file", "import", "show", "list", "worst", "export", "verify", "defaults",
+    "help",
+];
 
 #[test]
 fn defaults_and_help() {
@@ -320,7 +322,7 @@ fn defaults_and_help() {
 #[test]
 fn usage_errors_end_with_64() {
     let place = Place::new("usage");
-    let wrong: [&[&str]; 27] = [
+    let wrong: [&[&str]; 31] = [
         &[],
         &["emit"],
         &["work-out"],
@@ -342,6 +344,10 @@ fn usage_errors_end_with_64() {
         &["show", "archive"],
         &["show", "archive", "-1"],
         &["worst", "archive", "river"],
+        &["export", "archive"],
+        &["export", "archive", "first"],
+        &["export", "archive", "18446744073709551616"],
+        &["export", "archive", "0", "1"],
         &["list", "archive", "kind=4"],
         &["help", "foo"],
         &["help", "kinds", "list"],

@@ -6,8 +6,10 @@ use csorvelin_binding::Refusal;
 use csorvelin_model::case::Case;
 use std::process::{Command, Stdio};
 
-const COMMANDS: [&str; 12] =
-    ["work-out", "explain", "case", "new", "file", "import", "show", "list", "worst", "verify", "defaults", "help"];
+const COMMANDS: [&str; 13] = [
+    "work-out", "explain", "case", "new", "file", "import", "show", "list", "worst", "export", "verify", "defaults",
+    "help",
+];
 
 /// The words of a page's example, behind the command's name.
 fn example(page: &str) -> Vec<&str> {
@@ -30,7 +32,7 @@ fn the_example_of_each_page_runs() {
         let ran = place.run(&words);
         assert!(!ran.ends(0).out.is_empty() && ran.err.is_empty(), "{words:?}: {}", ran.err);
     }
-    assert_eq!(place.names(), ["archive", "cases.csv", "p1.case"]);
+    assert_eq!(place.names(), ["archive", "cases.csv", "loads", "p1.case"]);
 }
 
 /// Each command's page has its own forms, and says what is peculiar to it.
@@ -47,6 +49,7 @@ fn each_page_is_that_command_s_own() {
         ("show", "explain and verify check it"),
         ("list", "among equals the first filed is first"),
         ("worst", "Among equals it is the first filed."),
+        ("export", "the smallest binary64 number of micrograms that is not below its figure"),
         ("verify", "The exit status is 0 where all agree, 65 where not, 21 where it is no archive"),
         ("defaults", "the document, table and line that it comes from"),
         ("help", "csorvelin help refusals"),
@@ -75,6 +78,7 @@ fn help_refusals_has_every_number() {
         let line = format!("\n  {:<4}{}\n", refusal.number(), refusal.words());
         assert_eq!(page.matches(&line).count(), 1, "{page}");
     }
+    assert!(page.replace('\n', " ").contains("; show, export and explain of a record for 21, 24;"), "{page}");
     let numbers = page.lines().filter(|line| line.starts_with("  "));
     assert_eq!(numbers.count(), Refusal::ALL.len());
     // A refusal is told in the words of this page.
@@ -153,9 +157,11 @@ fn completion_in_bash() {
     place.write("completion", place.run(&["help", "completion"]).ends(0).out.as_bytes());
     let fields = ["kind=", "row=", "route=", "user=", "T=", "dossier=", "a=", "b=", "c=", "d=", "e=", "f="];
     let compartments = ["stp", "surface", "air", "soil"];
-    let expected: [(&[&str], &[&str]); 21] = [
+    let expected: [(&[&str], &[&str]); 24] = [
         (&["w"], &["work-out", "worst"]),
         (&["ver"], &["verify"]),
+        (&["ex"], &["explain", "export"]),
+        (&["export", "archive", "0", "--o"], &["--out"]),
         (&["--v"], &["--version"]),
         (&["zzz"], &[]),
         (&["help", "re"], &["refusals"]),
@@ -176,6 +182,7 @@ fn completion_in_bash() {
         // File names are left to bash.
         (&["file", "d"], &[]),
         (&["show", ""], &[]),
+        (&["export", "archive", "0", "--out", "k"], &[]),
         (&["work-out", "--case", "k"], &[]),
         (&["list", "archive", "--top", ""], &[]),
         (&["worst", "s"], &[]),

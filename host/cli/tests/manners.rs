@@ -9,8 +9,10 @@ use std::ffi::{OsStr, OsString};
 use std::fs;
 use std::os::unix::ffi::OsStrExt;
 
-const COMMANDS: [&str; 12] =
-    ["work-out", "explain", "case", "new", "file", "import", "show", "list", "worst", "verify", "defaults", "help"];
+const COMMANDS: [&str; 13] = [
+    "work-out", "explain", "case", "new", "file", "import", "show", "list", "worst", "export", "verify", "defaults",
+    "help",
+];
 
 #[test]
 fn the_version_is_the_header_s() {
@@ -83,6 +85,7 @@ fn a_file_name_may_be_any_bytes() {
         assert_eq!(run(&["list", "--csv", "--"], &[]).lines().count(), 3);
         assert!(run(&["show", "--"], &["1"]).starts_with("record   1\n"));
         assert!(run(&["worst", "--"], &["stp"]).starts_with("record   0\n"));
+        assert!(run(&["export", "--"], &["1"]).starts_with("record   1\n"));
         assert!(run(&["verify", "--"], &[]).ends_with("verified: all agree\n"));
         assert!(run(&["explain", "--"], &["1"]).contains("\nrecord   1\n"));
         Json::read(&run(&["verify", "--json", "--"], &[]));
@@ -302,7 +305,7 @@ fn every_answer_as_json_is_well_formed() {
     let place = Place::new("json_answers");
     place.write("cases.csv", csv(&[Case { dossier: 8, ..p1() }, p1()]).as_bytes());
     place.write("damaged", b"no archive");
-    let answers: [(&[&str], i32); 24] = [
+    let answers: [(&[&str], i32); 27] = [
         (&["new", "archive"], 0),
         (&["file", "archive", "kind=4", "row=1", "dossier=7", "a=0.71", "b=0", "c=1"], 0),
         (&["import", "archive", "cases.csv", "--keep-going"], 65),
@@ -313,6 +316,7 @@ fn every_answer_as_json_is_well_formed() {
         (&["show", "archive", "0"], 0),
         (&["list", "archive"], 0),
         (&["worst", "archive", "soil"], 0),
+        (&["export", "archive", "0", "--out", "loads"], 0),
         (&["verify", "archive"], 0),
         (&["defaults"], 0),
         (&["help"], 0),
@@ -323,6 +327,8 @@ fn every_answer_as_json_is_well_formed() {
         (&["work-out", "kind=9"], 2),
         (&["list", "damaged"], 21),
         (&["show", "archive", "9"], 24),
+        (&["export", "archive", "9"], 24),
+        (&["export", "damaged", "0"], 21),
         (&["worst", "archive", "9"], 12),
         (&["new", "archive"], 73),
         (&["show", "missing \"\\\x07", "0"], 66),

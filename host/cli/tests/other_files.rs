@@ -64,6 +64,8 @@ fn files_with_names_like_temporary_ones() {
     changes(&place, &[&["case", "--out", "n"], &P1[..]].concat(), &["n"]);
     changes_nothing(&place, &[&["case", "--out", "n"], &P1[..]].concat(), 73);
     changes(&place, &["show", "archive", "0", "--out", "shown"], &["shown"]);
+    changes(&place, &["export", "archive", "0", "--out", "loads"], &["loads"]);
+    changes_nothing(&place, &["export", "archive", "0", "--out", "loads"], 73);
     changes(&place, &["import", "archive", "n"], &["archive"]);
     for name in hidden {
         changes_nothing(&place, &["new", name], 73);
@@ -126,6 +128,7 @@ fn links_stay_links_and_are_not_written_through_where_they_lead_nowhere() {
         changes_nothing(&place, &["new", name], 73);
         changes_nothing(&place, &out(name), 73);
         changes_nothing(&place, &["show", "archive", "0", "--out", name], 73);
+        changes_nothing(&place, &["export", "archive", "0", "--out", name], 73);
     }
     for name in ["broken", "more", "loop", "nowhere"] {
         changes_nothing(&place, &filing(name, "dossier=9"), 66);

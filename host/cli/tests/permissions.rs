@@ -45,10 +45,11 @@ fn refused(place: &Place, run: impl Fn(&[&str]) -> Ran, status: i32, said: &str)
 
 /// The commands that read `archive` do what they always do.
 fn read(run: impl Fn(&[&str]) -> Ran) {
-    let reading: [&[&str]; 5] = [
+    let reading: [&[&str]; 6] = [
         &["list", "archive"],
         &["show", "archive", "1"],
         &["worst", "archive", "stp"],
+        &["export", "archive", "1"],
         &["explain", "archive", "0"],
         &["verify", "archive"],
     ];

@@ -16,6 +16,8 @@ fn on(archive: &str) -> Vec<Vec<&str>> {
         vec!["list", archive, "--csv"],
         vec!["show", archive, "0"],
         vec!["worst", archive, "stp"],
+        vec!["export", archive, "0"],
+        vec!["export", archive, "0", "--out", "loads"],
         vec!["verify", archive],
         vec!["explain", archive, "0"],
         vec!["import", archive, "case"],
@@ -150,9 +152,14 @@ fn an_archive_without_end_is_refused_in_bounded_memory() {
     File::create(place.path("long")).unwrap().set_len(1 << 33).unwrap();
     let most = 320 << 10;
     let found = "  found    over 96000016 bytes, more than any archive has\n";
-    for words in
-        [&["list", "-"][..], &["verify", "-"], &["show", "-", "0"], &["worst", "-", "air"], &["explain", "-", "0"]]
-    {
+    for words in [
+        &["list", "-"][..],
+        &["verify", "-"],
+        &["show", "-", "0"],
+        &["worst", "-", "air"],
+        &["export", "-", "0"],
+        &["explain", "-", "0"],
+    ] {
         let ran = run_on_zeros(&place, words, most);
         assert!(ran.ends(21).err.contains(found), "{words:?}: {}", ran.err);
         assert_eq!(ran.out, if words[0] == "list" { "refused 21\n" } else { "" });

@@ -52,6 +52,8 @@ fn what_was_done_is_said_on_standard_error() {
             done(&[&["case", "--out", "p1"], &P1[..]].concat(), "p1 is written");
             done(&["show", "archive", "1", "--out", "shown"], "shown is written");
             assert_eq!(place.read("shown"), place.read("archive")[96..160]);
+            done(&["export", "archive", "1", "--out", "loads"], "loads is written");
+            assert_eq!(place.read("loads"), archive::export(&place.read("archive"), 208, 1).1);
             place.run(&filing("archive", "dossier=7")).ends(22);
             place.write("cases.csv", b"kind,row,dossier,a,b,c\n4,1,9,5,0,1\n4,1,10,5,0,1\n");
             done(&["import", "archive", "cases.csv"], "2 offered, 0 refused, 2 filed in archive as records 2 to 3");
@@ -59,7 +61,7 @@ fn what_was_done_is_said_on_standard_error() {
             done(&["import", "archive", "one.csv"], "1 offered, 0 refused, 1 filed in archive as record 4");
             assert_eq!(place.read("archive").len(), 16 + 5 * 96);
             place.run(&["verify", "archive"]).ends(0);
-            assert_eq!(place.names(), ["archive", "cases.csv", "one.csv", "p1", "shown"]);
+            assert_eq!(place.names(), ["archive", "cases.csv", "loads", "one.csv", "p1", "shown"]);
         }
     }
 }
@@ -123,6 +125,8 @@ fn reading() -> Vec<(Vec<&'static str>, i32)> {
         (vec!["list", "archive", "--top", "3", "stp"], 0),
         (vec!["show", "archive", "1"], 0),
         (vec!["worst", "archive", "stp"], 0),
+        (vec!["export", "archive", "1"], 0),
+        (vec!["export", "archive", "1", "--json"], 0),
         (vec!["explain", "archive", "1"], 0),
         (vec!["verify", "archive"], 0),
         (vec!["verify", "archive", "--json"], 0),

@@ -186,6 +186,16 @@ fn a_case_file_stopped_at_each_step() {
     assert_eq!(folder.files(), before.into_iter().filter(|(name, _)| name != "shown").collect());
 }
 
+#[test]
+fn a_file_of_loads_stopped_at_each_step() {
+    let place = Place::new("stopped_loads");
+    place.run(&["new", "archive"]).ends(0);
+    place.run(&[&["file", "archive"], &P1[..]].concat()).ends(0);
+    let (_, loads) = archive::export(&place.read("archive"), 112, 0);
+    stop_creating_everywhere(&place, &["export", "archive", "0", "--out", "loads"], "loads", &loads);
+    assert_eq!(names(&place), ["archive", "loads"]);
+}
+
 /// The one who makes a new archive was stopped when it had its name, and the temporary one still: not a name of the user's.
 #[test]
 fn an_archive_that_was_left_with_two_names_is_filed_into() {
@@ -242,7 +252,9 @@ fn a_command_that_changes_nothing_has_no_step_that_writes() {
     let nothing = Vec::<String>::new();
     assert_eq!(steps(&place, &["import", "archive", "case", "--dry-run"], 65), nothing);
     assert_eq!(steps(&place, &["new", "archive"], 73), nothing);
-    for words in [&["list", "archive"][..], &["show", "archive", "0"], &["worst", "archive", "air"]] {
+    let reading: [&[&str]; 4] =
+        [&["list", "archive"], &["show", "archive", "0"], &["worst", "archive", "air"], &["export", "archive", "0"]];
+    for words in reading {
         assert_eq!(steps(&place, words, 0), nothing);
     }
     assert_eq!(steps(&place, &["verify", "archive"], 0), nothing);

@@ -1,7 +1,9 @@
-//! The commands on one record of an archive file: new, file, show, worst.
+//! The commands on one record of an archive file: new, file, show, worst, export.
 
 use super::cases::{complete, worked_out};
-use super::{archive_of, compartment, done, line, record_number, record_of, with_case_written, Answer};
+use super::{
+    archive_of, compartment, done, line, number_refused, record_number, record_of, with_bytes_written, Answer,
+};
 use crate::arguments::{Arguments, Opt};
 use crate::describe;
 use crate::filings::Filings;
@@ -66,7 +68,7 @@ pub fn show(arguments: &Arguments) -> Answer {
     let archive = archive_of(path, store::read_archive(path)?)?;
     let record = record_of(&archive, number)?;
     let text = record_text(number, &record, arguments);
-    with_case_written(arguments, record.case_bytes(), text, describe::record_json(number, &record))
+    with_bytes_written(arguments, record.case_bytes(), text, describe::record_json(number, &record))
 }
 
 fn record_text(number: u64, record: &Record, arguments: &Arguments) -> String {
@@ -85,4 +87,14 @@ pub fn worst(arguments: &Arguments) -> Answer {
     let record = record_of(&archive, number)?;
     let json = arguments.json().then(|| line(describe::record_json(number, &record)));
     Ok(json.unwrap_or_else(|| record_text(number, &record, arguments)).into())
+}
+
+pub fn export(arguments: &Arguments) -> Answer {
+    let [path, number] = arguments.places()?;
+    let number = record_number(number)?;
+    let archive = archive_of(path, store::read_archive(path)?)?;
+    let loads = archive.export(number).map_err(|refusal| number_refused(refusal, &archive, number))?;
+    let figures = record_of(&archive, number)?.figures();
+    let text = format!("record   {number}\n{}", describe::loads_text(&loads, figures));
+    with_bytes_written(arguments, &loads, text, describe::loads_json(number, &loads, figures))
 }

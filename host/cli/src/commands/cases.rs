@@ -1,6 +1,6 @@
 //! The commands on a case: work-out, explain, case.
 
-use super::{archive_of, line, record_number, record_of, with_case_written, Answer};
+use super::{archive_of, line, record_number, record_of, with_bytes_written, Answer};
 use crate::arguments::{Arguments, Given, Opt, Typed};
 use crate::explain::{self, Origin};
 use crate::failure::{Failure, NOT_IN_ORDER};
@@ -142,6 +142,6 @@ pub fn describe_case(arguments: &Arguments) -> Answer {
     }
     let text = describe::case_text(&case, typed, arguments.has(Opt::Exact));
     let text = format!("{text}bytes    {}\n", describe::hex(&given.bytes));
-    let answer = with_case_written(arguments, &given.bytes, text, describe::case_json(&case, typed))?;
+    let answer = with_bytes_written(arguments, &given.bytes, text, describe::case_json(&case, typed))?;
     Ok(answer.noting(describe::missing(&case, typed)))
 }

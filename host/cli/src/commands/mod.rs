@@ -31,7 +31,7 @@ pub struct Command {
     run: fn(&Arguments) -> Answer,
 }
 
-pub const COMMANDS: [Command; 12] = [
+pub const COMMANDS: [Command; 13] = [
     Command {
         name: "work-out",
         forms: &[("CASE", "the four figures of a case")],
@@ -127,6 +127,19 @@ The compartment of --top is stp, surface, air or soil (1 to 4); among equals the
         about: "Among equals it is the first filed.",
         example: "csorvelin worst archive stp",
         run: archives::worst,
+    },
+    Command {
+        name: "export",
+        forms: &[("ARCHIVE NUMBER", "a record's four figures as loads for a fate model; --out FILE writes them")],
+        options: &[Opt::Out],
+        about: "\
+A load is the smallest binary64 number of micrograms that is not below its figure: the figure itself
+up to 2^53, beyond that at most one part in 2^52 more. Each is printed with all its digits, its
+pattern and the figure. --out writes 32 bytes: the four patterns in the order of the figures, the
+lowest byte of each first. A record of zeros gives zero bytes; a refusal writes no file, and an
+existing one is never written over. Exports what the record holds; explain and verify check it.",
+        example: "csorvelin export archive 0 --out loads",
+        run: archives::export,
     },
     Command {
         name: "verify",
@@ -232,8 +245,8 @@ fn done<T>(output: Output, written: &Written<T>, what: String) -> Output {
     .done(what)
 }
 
-/// The answer of a command that may have been asked to write its case to a new file.
-fn with_case_written(arguments: &Arguments, case: &[u8], text: String, json: Json) -> Answer {
+/// The answer of a command that may have been asked to write some bytes, a case or loads, to a new file.
+fn with_bytes_written(arguments: &Arguments, bytes: &[u8], text: String, json: Json) -> Answer {
     let form = |text: String, json: Json| Output::from(if arguments.json() { line(json) } else { text });
     let Some(path) = arguments.value(Opt::Out) else {
         return Ok(form(text, json));
@@ -241,7 +254,7 @@ fn with_case_written(arguments: &Arguments, case: &[u8], text: String, json: Jso
     if path == "-" {
         return Err(Failure::Usage("--out needs a file, not standard output".to_string()));
     }
-    let written = store::create(path, case)?;
+    let written = store::create(path, bytes)?;
     let path = shown(path);
     let output = form(format!("{text}written  {path}\n"), json.and("written", Some(Json::from(path.as_str()))));
     Ok(done(output, &written, format!("{path} is written")))
@@ -259,13 +272,16 @@ fn archive_of(path: &OsStr, bytes: Vec<u8>) -> Result<Archive, Failure> {
 }
 
 fn record_of<'a>(archive: &'a Archive, number: u64) -> Result<Record<'a>, Failure> {
-    archive.show(number).map_err(|refusal| {
-        let allowed = match archive.len() {
-            0 => "none: the archive has no record".to_string(),
-            n => format!("0 to {}", n - 1),
-        };
-        refused(refusal, "number", number.to_string(), allowed)
-    })
+    archive.show(number).map_err(|refusal| number_refused(refusal, archive, number))
+}
+
+/// The library's refusal of a record's number.
+fn number_refused(refusal: Refusal, archive: &Archive, number: u64) -> Failure {
+    let allowed = match archive.len() {
+        0 => "none: the archive has no record".to_string(),
+        n => format!("0 to {}", n - 1),
+    };
+    refused(refusal, "number", number.to_string(), allowed)
 }
 
 fn record_number(text: &OsStr) -> Result<u64, Failure> {
