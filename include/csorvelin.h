@@ -39,7 +39,7 @@ extern "C" {
 #endif
 
 /* The version of library, header and command. It stands here and nowhere else. */
-#define CSORVELIN_VERSION "1.1.0"
+#define CSORVELIN_VERSION "1.2.0"
 
 /* Sizes in bytes. */
 #define CSORVELIN_CASE_SIZE 64

@@ -1,8 +1,6 @@
 -- What is exported, of any bytes in which show finds no fault: `exported-load` (each load is that of its record's figure), `exported-within` (so it is the least that is
 -- not below the figure, and adds at most one part in 2 ^ 52). `exported-refused`: beside a refusal 32 zeros. `exported-length`: 32 bytes in any case.
--- `found-shown`, `none-shown`: figures are found in what show lends exactly where it does not refuse.
 use mathlib.Core.Path.{_≡_, refl, ap, _∙_}
-use mathlib.Core.Bool.{true, false}
 use mathlib.Core.List.{List}
 use Prim.Native.Nat.{ℕ, zero, suc, _*_, _^_, _<_}
 use native.Mathlib.Omega.{arith}
@@ -11,9 +9,9 @@ use Rattle.octets.specs.Bytes.{numberAt}
 use Rattle.load.specs.Load.{loadBytes}
 use Rattle.load.proofs.Least.{bytes-within}
 use Rattle.records.specs.Layout.{bytesAt}
-use Rattle.archive.specs.Archive.{showRefusal, showPart, isRecord, recordFigures}
+use Rattle.archive.specs.Archive.{showRefusal, showPart, recordFigures}
 use Rattle.archive.proofs.AnswerLaws.{accepted-refused}
-use Rattle.archive.proofs.FiguresRead.{fourAt, shown-record, shown-no-record}
+use Rattle.archive.proofs.FiguresRead.{fourAt, shown-record}
 use Rattle.export.specs.Export.{loadsOf, exportBytes, figureIn, EachWithin}
 use Rattle.export.proofs.Loads.{loads-place, length-loads}
 
@@ -55,19 +53,3 @@ exported-length b u k = go (showRefusal b u k) refl
     go : (r : ℕ) → showRefusal b u k ≡ r → length (exportBytes b u k) ≡ 32
     go zero e = ap length (of-bytes b u k e) ∙ length-loads (fourAt b (96 * k))
     go (suc r) e = ap length (exported-refused b u k (λ z. omega (arith, e, z)))
-
-pub found-shown : (b : List ℕ) (u k : ℕ) → isRecord (showPart b u k) ≡ true → showRefusal b u k ≡ 0
-found-shown b u k t = go (showRefusal b u k) refl
-  where
-    go : (r : ℕ) → showRefusal b u k ≡ r → showRefusal b u k ≡ 0
-    go zero e = e
-    go (suc r) e =
-        let f = shown-no-record b u k (λ z. omega (arith, e, z)) .0 in
-        let z : _≡_ {A = ℕ} 0 1 = cc in
-        absurd (omega arith)
-
-pub none-shown : (b : List ℕ) (u k : ℕ) → isRecord (showPart b u k) ≡ false → showRefusal b u k ≡ 0 → ⊥
-none-shown b u k f e =
-    let t = shown-record b u k e .0 in
-    let z : _≡_ {A = ℕ} 0 1 = cc in
-    omega arith

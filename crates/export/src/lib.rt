@@ -33,13 +33,13 @@ pub fn export(archive: &[u8], used: u64, number: u64) -> Exported
     ensures bytes { λ r. ⌜ (r .refusal ≡ showRefusal (now (archive .entry)) used number) × (r .loads ≡ exportBytes (now (archive .entry)) used number) ⌝ }
     ensures within { λ r. ⌜ (r .refusal ≡ 0 → EachWithin (now (archive .entry)) number (r .loads)) ⌝ }
 {
-    let record = figures_of(show(archive, used, number));
-    if record.found {
-        let figures = record.figures;
-        let loads = loads_of(figures);
-        return Exported { refusal: 0, loads };
-    }
     let refusal = show_refusal(archive, used, number);
-    let loads = [0u8; 32];
+    if refusal != 0 {
+        let loads = [0u8; 32];
+        return Exported { refusal, loads };
+    }
+    let record = figures_of(show(archive, used, number));
+    let figures = record.figures;
+    let loads = loads_of(figures);
     Exported { refusal, loads }
 }
