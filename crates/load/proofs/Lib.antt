@@ -3,5 +3,6 @@ pub mod Shifted
 pub mod Value
 pub mod Least
 pub mod Smallest
+pub mod Micrograms
 pub mod Examples
 pub mod AsksNothing
