@@ -1,16 +1,19 @@
 -- Calls of `csorvelin_load` and `csorvelin_export`, by what their own contracts, as the toolchain reads them, say: `CLoadCall`, `CExportCall`, `c-loads-met`.
--- `c-load-within`, `c-export-within`: with the result 0, which load always gives, each load in the caller's place is that of its figure, within the bounds.
+-- `c-load-within`, `c-export-within`: with the result 0, which load always gives, each load in the caller's place is that of its figure, within the bounds;
+-- `c-export-in-micrograms`: what that means in plain numbers.
 -- `c-export-refusal-first`, `c-export-refused`: the result of export is the first of show's conditions that holds; beside one stand 32 zeros. `c-export-reads-only`.
 use mathlib.Core.Path.{_≡_, refl, sym, _∙_, subst}
 use mathlib.Core.List.{List}
-use Prim.Native.Nat.{ℕ}
+use Prim.Native.Nat.{ℕ, _+_, _-_, _*_, _^_, _≤_, _<_}
 use denote.Ref.{now}
 use lib.ListN.{replicate}
-use Rattle.octets.specs.Bytes.{numberOf}
+use Rattle.octets.specs.Bytes.{numberOf, numberAt}
+use Rattle.binary64.specs.Quantity.{whole}
 use Rattle.kinds.specs.Refusal.{IsFirst}
 use Rattle.kinds.proofs.Refusals.{first-of-is-first}
 use Rattle.emission.specs.Called.{Called, ends}
 use Rattle.load.specs.Load.{LoadWithin}
+use Rattle.load.proofs.Micrograms.{in-micrograms}
 use Rattle.archive.specs.Archive.{showRefusals}
 use Rattle.export.specs.Export.{EachWithin}
 use Rattle.export.proofs.EachLoad.{exported-refused}
@@ -54,6 +57,12 @@ module _ (call : CExportCall) where
 
   pub c-export-within : call .result ≡ 0 → EachWithin b k loads
   c-export-within e = call .kept .1 e
+
+  -- in plain numbers, where load i of the four is m micrograms
+  pub c-export-in-micrograms : call .result ≡ 0 → (i m : ℕ) → i < 4 → whole (numberAt loads (8 * i) 8) ≡ m * 2 ^ 1074
+      → let figure = numberAt b (96 * k + (64 + 8 * i)) 8 in
+      (figure ≤ m) × ((m - figure) * 4503599627370496 ≤ figure)
+  c-export-in-micrograms e i m h v = in-micrograms _ m v (call .kept .1 e i h)
 
   pub c-export-refused : (call .result ≡ 0 → ⊥) → loads ≡ replicate 32 0
   c-export-refused h = call .kept .0 .1 ∙ exported-refused b u k (λ z. h (call .kept .0 .0 ∙ z))

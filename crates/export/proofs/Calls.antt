@@ -1,13 +1,17 @@
 -- A call of `export`, by what its own contract, as the toolchain reads it, says: `ExportCall`; `met`, `asks-nothing`.
--- `export-refusal-first`: the refusal is the first of show's conditions that holds. `export-within`: with none each load is that of its record's figure.
+-- `export-refusal-first`: the refusal is the first of show's conditions that holds. `export-within`: with none each load is that of its record's figure, and
+-- `export-in-micrograms` says of each what that means in plain numbers.
 -- `export-refused`: beside one stand 32 zeros. `export-reads-only`: the archive is left as it was.
 use mathlib.Core.Path.{_≡_, refl, sym, _∙_, subst}
 use mathlib.Core.List.{List}
-use Prim.Native.Nat.{ℕ}
+use Prim.Native.Nat.{ℕ, _+_, _-_, _*_, _^_, _≤_, _<_}
 use borrow.Fn.Kinds as kinds
 use contract.Lifetimes.{Lfts}
 use denote.Ref.{now}
 use lib.ListN.{replicate}
+use Rattle.octets.specs.Bytes.{numberAt}
+use Rattle.binary64.specs.Quantity.{whole}
+use Rattle.load.proofs.Micrograms.{in-micrograms}
 use Rattle.kinds.specs.Refusal.{IsFirst}
 use Rattle.kinds.proofs.Refusals.{first-of-is-first}
 use Rattle.emission.specs.Called.{Called, ends}
@@ -44,6 +48,12 @@ module _ (call : ExportCall) where
 
   pub export-within : call .result .refusal ≡ 0 → EachWithin b k (call .result .loads)
   export-within e = call .kept .1 e
+
+  -- in plain numbers, where load i of the four is m micrograms
+  pub export-in-micrograms : call .result .refusal ≡ 0 → (i m : ℕ) → i < 4 → whole (numberAt (call .result .loads) (8 * i) 8) ≡ m * 2 ^ 1074
+      → let figure = numberAt b (96 * k + (64 + 8 * i)) 8 in
+      (figure ≤ m) × ((m - figure) * 4503599627370496 ≤ figure)
+  export-in-micrograms e i m h v = in-micrograms _ m v (call .kept .1 e i h)
 
   pub export-refused : (call .result .refusal ≡ 0 → ⊥) → call .result .loads ≡ replicate 32 0
   export-refused h = call .kept .0 .1 ∙ exported-refused b u k (λ z. h (call .kept .0 .0 ∙ z))

@@ -1,5 +1,5 @@
--- What is exported, of any bytes in which show finds no fault: `exported-load` (each load is that of its record's figure), `exported-within` (so it is the least that is
--- not below the figure, and adds at most one part in 2 ^ 52). `exported-refused`: beside a refusal 32 zeros. `exported-length`: 32 bytes in any case.
+-- What is exported, of any bytes in which show finds no fault: `exported-loads` (those of what it lends), `exported-load` (each is that of its record's figure, by the
+-- archive's bytes), `exported-within` (so it is all that a load is). `exported-refused`: beside a refusal 32 zeros. `exported-length`: 32 bytes in any case.
 use mathlib.Core.Path.{_≡_, refl, ap, _∙_}
 use mathlib.Core.List.{List}
 use Prim.Native.Nat.{ℕ, zero, suc, _*_, _^_, _<_}
@@ -7,7 +7,7 @@ use native.Mathlib.Omega.{arith}
 use lib.ListN.{length, getD, replicate}
 use Rattle.octets.specs.Bytes.{numberAt}
 use Rattle.load.specs.Load.{loadBytes}
-use Rattle.load.proofs.Least.{bytes-within}
+use Rattle.load.proofs.Smallest.{bytes-within}
 use Rattle.records.specs.Layout.{bytesAt}
 use Rattle.archive.specs.Archive.{showRefusal, showPart, recordFigures}
 use Rattle.archive.proofs.AnswerLaws.{accepted-refused}

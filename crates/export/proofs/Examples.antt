@@ -2,7 +2,7 @@
 use mathlib.Core.Path.{_≡_, refl}
 use mathlib.Core.List.{List}
 use Prim.Native.Nat.{ℕ}
-use lib.Count.{leadingZeros}
+use lib.Ieee.{size, span, climb}
 use lib.ListN.{replicate}
 use Rattle.natural.specs.Ceiling.{ceiling}
 use Rattle.octets.specs.Bytes.{bytesOf, numberOf, numberAt}
@@ -22,5 +22,5 @@ pub worked-export :
     × Tells 208 1 0 secondLoads
     × Tells 208 2 24 (replicate 32 0)
     × Tells 209 0 21 (replicate 32 0)
-unfolding exportBytes loadsOf loadBytes loadPattern leadingZeros ceiling bytesOf numberAt numberOf figuresIn lineOf broken showRefusals showPart isRecord recordFigures
+unfolding exportBytes loadsOf loadBytes loadPattern size span climb ceiling bytesOf numberAt numberOf figuresIn lineOf broken showRefusals showPart isRecord recordFigures
 worked-export = ((refl, refl), (refl, refl), (refl, refl), (refl, refl))

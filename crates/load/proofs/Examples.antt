@@ -2,7 +2,7 @@
 use mathlib.Core.Path.{_≡_, refl}
 use mathlib.Core.List.{[], _∷_, map}
 use Prim.Native.Nat.{_*_}
-use lib.Count.{leadingZeros}
+use lib.Ieee.{size, span, climb}
 use Rattle.natural.specs.Ceiling.{ceiling}
 use Rattle.octets.specs.Bytes.{bytesOf}
 use Rattle.binary64.specs.Quantity.{wholeAt, whole, one}
@@ -12,11 +12,11 @@ use Rattle.load.specs.Edges.{Edge, edges}
 pub edges-hold :
     (map (λ (e : Edge). loadPattern (e .figure)) edges ≡ map (λ (e : Edge). e .pattern) edges)
     × (map (λ (e : Edge). whole (e .pattern)) edges ≡ map (λ (e : Edge). e .load * one) edges)
-unfolding loadPattern leadingZeros ceiling whole wholeAt
+unfolding loadPattern size span climb ceiling whole wholeAt
 edges-hold = (refl, refl)
 
 pub load-in-order :
     (loadBytes 81985529216486895 ≡ 0xdf ∷ 0xbc ∷ 0x9a ∷ 0x78 ∷ 0x56 ∷ 0x34 ∷ 0x72 ∷ 0x43 ∷ [])
     × (loadBytes 0 ≡ 0 ∷ 0 ∷ 0 ∷ 0 ∷ 0 ∷ 0 ∷ 0 ∷ 0 ∷ [])
-unfolding loadBytes loadPattern bytesOf leadingZeros ceiling
+unfolding loadBytes loadPattern bytesOf size span climb ceiling
 load-in-order = (refl, refl)

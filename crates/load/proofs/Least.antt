@@ -1,16 +1,14 @@
--- What the definition means, by exact values: `load-is-least`, `load-is-unique`; `load-adds` (at most one part in 2 ^ 52), `load-within` (both).
--- `load-exact`: a figure up to 2 ^ 53 is its own load. `load-finite`, `load-quantity`: below infinity, so a quantity.
--- `load-read`: the bytes hold the pattern; `bytes-within`: so what holds of it holds of them.
--- By the library of IEEE 754, of every binary64: `Smallest`.
-use mathlib.Core.Path.{_≡_, refl, sym, ap, _∙_, subst}
+-- What the definition means, by exact values: `load-is-least`, `load-is-unique`; `load-adds` (at most one part in 2 ^ 52).
+-- `load-exact`: a figure up to 2 ^ 53 is its own load. `load-finite`, `load-quantity`: below infinity, so a quantity. `load-read`: the bytes hold the pattern.
+-- By the library of IEEE 754, of every binary64, is in `Smallest`; in whole micrograms in `Micrograms`.
+use mathlib.Core.Path.{_≡_, refl, sym, ap, _∙_}
 use mathlib.Core.Bool.{true}
-use mathlib.Core.List.{List}
 use mathlib.Core.Logic.{⊎-elim}
 use Prim.Native.Nat.{ℕ, zero, suc, _+_, _-_, _*_, _^_, _≤_, _<_, zero-le}
 use native.Mathlib.Nat.{eq-or-lt-of-le, le-antisymm, not-le-of-lt, lt-of-not-le, mod-eq-of-lt, mul-le-mul-right, mul-lt-mul-of-pos-right}
 use native.Mathlib.Omega.{arith}
 use lib.Pow.{pow-pos, pow-add}
-use lib.Count.{leadingZeros}
+use lib.Ieee.{size, span, climb}
 use Rattle.natural.specs.Ceiling.{ceiling}
 use Rattle.octets.specs.Bytes.{numberOf}
 use Rattle.octets.proofs.Numbers.{numberOf-bytesOf}
@@ -18,7 +16,7 @@ use Rattle.binary64.specs.Pattern.{isUnsignedFinite}
 use Rattle.binary64.specs.Quantity.{wholeAt, whole, one}
 use Rattle.binary64.proofs.Exact.{unsigned-finite-exactly, whole-zero}
 use Rattle.binary64.proofs.Order.{whole-increasing, whole-monotone}
-use Rattle.load.specs.Load.{IsLoad, LoadWithin, digits, significand, loadPattern, loadBytes}
+use Rattle.load.specs.Load.{IsLoad, digits, significand, loadPattern, loadBytes}
 use Rattle.load.proofs.Shifted.{zerosBefore, shifted, Shifted, shifted-facts, few-digits, Rounded, rounded-facts}
 use Rattle.load.proofs.Value.{unit, value-on, value-of-figure, value-of-load, pattern-is}
 
@@ -90,11 +88,8 @@ unfolding loadPattern
 load-adds zero h = rw whole-zero zero-le
 load-adds (suc n) h = adds (suc n) (omega arith) h
 
-pub load-within : (n : ℕ) → n < 2 ^ 64 → LoadWithin n (loadPattern n)
-load-within n h = record { is-load = load-is-least n h; adds = load-adds n h }
-
 pub load-exact : (n : ℕ) → n ≤ 2 ^ 53 → whole (loadPattern n) ≡ n * one
-unfolding loadPattern leadingZeros ceiling whole wholeAt
+unfolding loadPattern size span climb ceiling whole wholeAt
 load-exact zero h = refl
 load-exact (suc n) h =
     ⊎-elim
@@ -108,7 +103,7 @@ load-exact (suc n) h =
 pub load-finite : (n : ℕ) → n < 2 ^ 64 → loadPattern n ≤ 1087 * 2 ^ 52
 unfolding loadPattern
 load-finite zero h = omega arith
-load-finite (suc n) h = omega (arith, pattern-is (suc n) (omega arith), r (suc n) (omega arith) h .high)
+load-finite (suc n) h = omega (arith, pattern-is (suc n) (omega arith), r (suc n) (omega arith) h .high, s (suc n) (omega arith) h .rest)
 
 pub load-quantity : (n : ℕ) → n < 2 ^ 64 → isUnsignedFinite (loadPattern n) ≡ true
 load-quantity n h = unsigned-finite-exactly (loadPattern n) .1 (omega (arith, load-finite n h))
@@ -116,6 +111,3 @@ load-quantity n h = unsigned-finite-exactly (loadPattern n) .1 (omega (arith, lo
 pub load-read : (n : ℕ) → n < 2 ^ 64 → numberOf (loadBytes n) ≡ loadPattern n
 unfolding loadBytes
 load-read n h = numberOf-bytesOf 8 (loadPattern n) ∙ mod-eq-of-lt (omega (arith, load-finite n h))
-
-pub bytes-within : (n : ℕ) {l : List ℕ} → n < 2 ^ 64 → l ≡ loadBytes n → LoadWithin n (numberOf l)
-bytes-within n {l} h e = subst (LoadWithin n) (sym (ap numberOf e ∙ load-read n h)) (load-within n h)

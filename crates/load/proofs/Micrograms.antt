@@ -1,8 +1,7 @@
 -- Loads in plain whole numbers of micrograms: `load-is-whole` (each is one), `in-micrograms` (what `LoadWithin` says of it, with no 2 ^ 1074).
 use mathlib.Core.Path.{_≡_, refl, sym, ap, _∙_}
 use mathlib.Core.Bool.{Bool, true, false}
-
-use Prim.Native.Nat.{ℕ, zero, suc, _+_, _-_, _*_, _^_, _≤_, _<_}
+use Prim.Native.Nat.{ℕ, suc, _+_, _-_, _*_, _^_, _≤_, _<_}
 use native.Mathlib.Nat.{le-of-lt, le-of-mul-le-mul-right, lt-of-not-le, mul-assoc}
 use native.Mathlib.Omega.{arith}
 use lib.Pow.{pow-pos, pow-add, pow-mono}
@@ -29,9 +28,10 @@ from-2^53 n l h =
     let z = zerosBefore n in
     let s = shifted-facts n (omega arith) h in
     let e : 11 + (1074 - z) ≡ (11 - z) + 1074 = omega (arith, many-digits n l h) in
-    let p : 2 ^ 11 * unit n ≡ 2 ^ (11 - z) * one = sym (pow-add 2 11 (1074 - z)) ∙ ap (λ (k : ℕ). 2 ^ k) e ∙ pow-add 2 (11 - z) 1074 in
-    (significand n * 2 ^ (11 - z),
-      value-of-load n (omega arith) s (rounded-facts n s) ∙ mul-assoc (significand n) (2 ^ 11) (unit n) ∙ ap (λ (k : ℕ). significand n * k) p ∙ sym (mul-assoc (significand n) (2 ^ (11 - z)) one))
+    let p : 2 ^ 11 * unit n ≡ 2 ^ (11 - z) * one = sym (pow-add 2 11 (1074 - z)) ∙ ap (λ (k : ℕ). 2 ^ k) e ∙ pow-add 2 (11 - z) 1074 in (
+      significand n * 2 ^ (11 - z),
+      value-of-load n (omega arith) s (rounded-facts n s) ∙ mul-assoc (significand n) (2 ^ 11) (unit n) ∙ ap (λ (k : ℕ). significand n * k) p ∙ sym (mul-assoc (significand n) (2 ^ (11 - z)) one),
+    )
 
 pub load-is-whole : (n : ℕ) → n < 2 ^ 64 → (m : ℕ) × (whole (loadPattern n) ≡ m * one)
 load-is-whole n h = go (leb (2 ^ 53) n) refl

@@ -6,6 +6,7 @@ use native.Mathlib.Nat.{lt-of-not-le, mod-eq-of-lt, mul-le-mul-right}
 use native.Mathlib.Omega.{arith}
 use lib.Pow.{pow-add, pow-mono, pow-pos, shl-lt}
 use lib.Count.{leadingZeros, leading-top}
+use lib.Ieee.Digits.{size-lt, size-le}
 use Rattle.natural.specs.Ceiling.{ceiling}
 use Rattle.natural.proofs.Ceiling.{ceiling-same}
 use Rattle.load.specs.Load.{digits, significand}
@@ -19,6 +20,7 @@ shifted n = n * 2 ^ zerosBefore n
 
 pub record Shifted (n : ℕ) : Type 0 where
   pub few : zerosBefore n < 64
+  pub rest : zerosBefore n + digits n ≡ 64
   pub top : 2 ^ 63 ≤ shifted n
   pub fits : shifted n < 2 ^ 64
   pub none-lost : shifted n % 2 ^ 64 ≡ shifted n
@@ -30,8 +32,11 @@ shifted-facts n p h =
     let low : t .0 + z ≡ 63 = omega (arith, t .1) in
     let high : suc (t .0) + z ≡ 64 = omega (arith, t .1) in
     let below : shifted n < 2 ^ 64 = subst (λ (k : ℕ). n * 2 ^ z < 2 ^ k) high (shl-lt {a = n} (suc (t .0)) z (t .3)) in
+    let a : digits n ≤ suc (t .0) = size-le n (suc (t .0)) (t .3) in
+    let b : t .0 < digits n = lt-of-not-le (λ (g : digits n ≤ t .0). let m : 2 ^ digits n ≤ 2 ^ t .0 = pow-mono g in omega (arith, t .2, size-lt n)) in
     record {
       few = omega (arith, t .1);
+      rest = omega (arith, t .1);
       top = subst (λ (k : ℕ). 2 ^ k ≤ n * 2 ^ z) low (rw (pow-add 2 (t .0) z) (mul-le-mul-right (2 ^ z) (t .2)));
       fits = below;
       none-lost = mod-eq-of-lt below;
@@ -49,7 +54,7 @@ few-digits n p h =
 of-shifted : (n : ℕ) → Shifted n → significand n ≡ ceiling (shifted n) (2 ^ 11)
 of-shifted n s =
     let z = zerosBefore n in
-    let e : z + digits n ≡ 64 = omega (arith, s .few) in
+    let e = s .rest in
     let p : 2 ^ z * 2 ^ digits n ≡ 2 ^ 64 = sym (pow-add 2 z (digits n)) ∙ ap (λ (k : ℕ). 2 ^ k) e in
     let q : n * (2 ^ z * 2 ^ digits n) ≡ n * 2 ^ 64 = ap (λ (k : ℕ). n * k) p in
     ceiling-same (n * 2 ^ 53) (2 ^ digits n) (shifted n) (2 ^ 11) (pow-pos (digits n)) (omega arith) (omega arith)

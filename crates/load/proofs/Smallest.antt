@@ -1,23 +1,27 @@
 -- `load-is-smallest`: of every binary64, by the library of IEEE 754, whichever is at least the figure is at least the load, which is one of them.
 -- `load-value`: the library gives the load's pattern the exact value that `IsLoad` speaks of. `load-back`: its double has its pattern.
+-- `load-within`: all that the contracts say of a load; `bytes-within`: so of its bytes. `smallest-of-values`: what it is to be the smallest, in exact values.
 use mathlib.Core.Path.{_≡_, refl, sym, ap, _∙_, subst}
-use mathlib.Core.Bool.{Bool, true, false, cond, _&&_, _||_}
-use mathlib.Core.Logic.{_⊎_, inl, inr, ⊎-elim}
+use mathlib.Core.Bool.{Bool, true, false, cond}
+use mathlib.Core.List.{List}
+use mathlib.Core.Logic.{⊎-elim}
 use Prim.Native.Nat.{ℕ, zero, suc, _+_, _*_, _/_, _%_, _^_, _≤_, _<_}
-use native.Mathlib.Nat.{eq-or-lt-of-le, le-of-lt, le-of-eq, lt-of-not-le, not-le-of-lt, le-of-mul-le-mul-right, mul-le-mul-right, mul-pos, mod-eq-of-lt}
+use native.Mathlib.Nat.{eq-or-lt-of-le, lt-of-not-le, lt-of-lt-of-le, not-le-of-lt, le-of-mul-le-mul-right, mul-pos, mul-le-mul-right, mod-eq-of-lt}
 use native.Mathlib.Omega.{arith}
-use lib.Dec.{T, leb, ltb, eqb, ltb→lt, eqb→eq}
-use lib.IntN.{ℤ, pos, negsuc}
+use lib.Dec.{T, leb, eqb, lt→ltb}
+use lib.IntN.{ℤ, pos}
 use lib.Pow.{pow-pos}
-use lib.Ieee.{Float, nan, inf, fin, binary64, ofFields, ofBits, toBits, odd, le, up, down}
+use lib.Ieee.{Float, nan, inf, fin, binary64, ofFields, ofBits, toBits, odd, le}
 use lib.Ieee.Exact.{HasValue}
 use lib.Ieee.Order.{le-of-values}
-use borrow.Author.Tests.{leb-false, lt-leb, eqb-true}
+use lib.Ieee.Positive.{positive, above, above-of-le, positive-of-value, values-of-le}
+use borrow.Author.Tests.{leb-false, lt-leb}
+use Rattle.octets.specs.Bytes.{numberOf}
 use Rattle.binary64.specs.Quantity.{whole, one}
 use Rattle.binary64.proofs.Exact.{exact-value, pattern-back}
 use Rattle.binary64.proofs.Order.{whole-monotone}
-use Rattle.load.specs.Load.{IsSmallest, exactly, loadPattern}
-use Rattle.load.proofs.Least.{load-is-least, load-finite}
+use Rattle.load.specs.Load.{IsSmallest, LoadWithin, exactly, loadPattern, loadBytes}
+use Rattle.load.proofs.Least.{load-is-least, load-adds, load-finite, load-read}
 
 pub load-value : (n : ℕ) → n < 2 ^ 64 → HasValue (ofBits binary64 (loadPattern n)) false (whole (loadPattern n)) one
 load-value n h = exact-value (loadPattern n) (omega (arith, load-finite n h))
@@ -27,48 +31,27 @@ load-back n h = pattern-back (loadPattern n) (omega (arith, load-finite n h))
 
 -- ── what is at least a whole number above 0
 
-either : (p q : Bool) → T (p || (q && true)) → T p ⊎ T q
-either true q t = inl t
-either false true t = inr t
-either false false t = absurd t
+counts : (n : ℕ) → T (positive (exactly (suc n)))
+counts n = lt→ltb 0 (suc n) (omega arith)
 
-down-pos : (e : ℤ) → 0 < down e
-down-pos (pos k) = omega arith
-down-pos (negsuc k) = pow-pos (suc k)
-
--- over any denominator c: n is at most x over d, which is a over c
-across : (n d x a c : ℕ) → 0 < d → n * d ≤ x → x * c ≡ a * d → n * c ≤ a
-across n d x a c p l e =
-    let k : n * d * c ≤ x * c = mul-le-mul-right c l in
-    le-of-mul-le-mul-right {m = n * c} {n = a} (omega arith) p
+positive-here : (x : Float) (a c : ℕ) → HasValue x false a c → T (above x) → T (positive x)
+positive-here nan a c v t = absurd t
+positive-here (inf s) a c v t = absurd v
+positive-here (fin true m e) a c v t = absurd t
+positive-here (fin false m e) a c v t = t
 
 -- an unsigned number of a known value
-value-at-least : (n : ℕ) (x : Float) (a c : ℕ) → HasValue x false a c → T (le (exactly n) x) → n * c ≤ a
-unfolding le
-value-at-least n nan a c v t = absurd v
-value-at-least n (inf s) a c v t = absurd v
-value-at-least n (fin true m e) a c v t = let q = v .0 in let z : _≡_ {A = ℕ} 0 1 = cc in absurd (omega arith)
-value-at-least n (fin false m e) a c v t =
-    let x = n * 1 * down e in
-    let y = m * up e * 1 in
-    let l : x ≤ y = ⊎-elim (λ p. le-of-lt (ltb→lt x y p)) (λ q. le-of-eq (eqb→eq x y q)) (either (ltb x y) (eqb x y) t) in
-    across n (down e) (m * up e) a c (down-pos e) (omega arith) (v .1)
+value-at-least : (n : ℕ) (x : Float) (a c : ℕ) → HasValue x false a c → T (le (exactly (suc n)) x) → suc n * c ≤ a
+value-at-least n x a c v t =
+    let l = values-of-le (exactly (suc n)) x (suc n) 1 a c (counts n) (positive-here x a c v (above-of-le (exactly (suc n)) x (counts n) t)) (refl, omega arith) v t in
+    omega arith
 
 number-at-most : (n : ℕ) (x : Float) (a c : ℕ) → 0 < c → HasValue x false a c → n * c ≤ a → T (le (exactly n) x)
 number-at-most n x a c p v l = le-of-values (exactly n) x n 1 a c (omega arith) p (refl, omega arith) v (omega arith)
 
 -- nothing with a sign bit is at least a number above 0
 signed : (n m : ℕ) (e : ℤ) → T (le (exactly (suc n)) (fin true m e)) → ⊥
-unfolding le
-signed n m e t = go (eqb (suc n * 1 * down e) (m * up e * 1)) (eqb (suc n * 1 * down e) 0) refl t
-  where
-    above : 0 < suc n * 1 * down e
-    above = mul-pos (omega arith) (down-pos e)
-
-    go : (p q : Bool) → eqb (suc n * 1 * down e) 0 ≡ q → T (p && (false || q)) → ⊥
-    go true true q t = omega (arith, above, eqb-true (suc n * 1 * down e) 0 q)
-    go true false q t = t
-    go false r q t = t
+signed n m e t = above-of-le (exactly (suc n)) (fin true m e) (counts n) t
 
 signed-odd : (n d q k l : ℕ) → T (le (exactly (suc n)) (odd d true q k l)) → ⊥
 unfolding odd
@@ -111,7 +94,7 @@ module _ (n : ℕ) (h : suc n < 2 ^ 64) where
 
   among-finite : (c : ℕ) → c < 2047 * 2 ^ 52 → T (le (exactly (suc n)) (ofBits binary64 c)) → T (le (ofBits binary64 b) (ofBits binary64 c))
   among-finite c l t =
-      let v = value-at-least (suc n) (ofBits binary64 c) (whole c) one (exact-value c l) t in
+      let v = value-at-least n (ofBits binary64 c) (whole c) one (exact-value c l) t in
       let f : b < suc c = lt-of-not-le (λ (g : suc c ≤ b). not-le-of-lt (load-is-least (suc n) h .least c g) v) in
       let w : whole b ≤ whole c = whole-monotone b c (omega arith) in
       le-of-values (ofBits binary64 b) (ofBits binary64 c) (whole b) one (whole c) one (pow-pos 1074) (pow-pos 1074) (load-value (suc n) h) (exact-value c l) (mul-le-mul-right one w)
@@ -145,3 +128,19 @@ load-is-smallest (suc n) h = record {
   at-least = number-at-most (suc n) (ofBits binary64 (loadPattern (suc n))) (whole (loadPattern (suc n))) one (pow-pos 1074) (load-value (suc n) h) (load-is-least (suc n) h .not-below);
   smallest = among-all n h;
 }
+
+pub load-within : (n : ℕ) → n < 2 ^ 64 → LoadWithin n (loadPattern n)
+load-within n h = record { is-load = load-is-least n h; is-smallest = load-is-smallest n h; adds = load-adds n h }
+
+pub bytes-within : (n : ℕ) {l : List ℕ} → n < 2 ^ 64 → l ≡ loadBytes n → LoadWithin n (numberOf l)
+bytes-within n {l} h e = subst (LoadWithin n) (sym (ap numberOf e ∙ load-read n h)) (load-within n h)
+
+-- what it is to be the smallest, in exact values: of every number that is not below the figure
+pub smallest-of-values : (n b c : ℕ) → b < 2047 * 2 ^ 52 → c < 2047 * 2 ^ 52 → IsSmallest (suc n) b → suc n * one ≤ whole c → whole b ≤ whole c
+smallest-of-values n b c p q s l =
+    let t = s .smallest c (number-at-most (suc n) (ofBits binary64 c) (whole c) one (pow-pos 1074) (exact-value c q) l) in
+    let a : suc n * one ≤ whole b = value-at-least n (ofBits binary64 b) (whole b) one (exact-value b p) (s .at-least) in
+    let z : 0 < suc n * one = mul-pos (omega arith) (pow-pos 1074) in
+    let f = positive-of-value (ofBits binary64 b) (whole b) one (exact-value b p) (lt-of-lt-of-le z a) in
+    let g = positive-of-value (ofBits binary64 c) (whole c) one (exact-value c q) (lt-of-lt-of-le z l) in
+    le-of-mul-le-mul-right (values-of-le (ofBits binary64 b) (ofBits binary64 c) (whole b) one (whole c) one f g (exact-value b p) (exact-value c q) t) (pow-pos 1074)

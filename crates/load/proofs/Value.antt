@@ -1,4 +1,5 @@
--- The exact value of a load, and of its figure, over one common power of two: `whole-carry`, `value-of-load`, `value-of-figure`.
+-- The exact value of a load, and of its figure, over one common power of two, `unit`: `value-of-load`, `value-of-figure`.
+-- On the way: `whole-carry`, `value-on` (any significand on the figure's exponent), `pattern-is` (of a figure that is not 0).
 use mathlib.Core.Path.{_≡_, sym, ap, _∙_}
 use mathlib.Core.Logic.{⊎-elim}
 use Prim.Native.Nat.{ℕ, suc, _+_, _-_, _*_, _/_, _%_, _^_, _≤_, _<_}
@@ -45,7 +46,7 @@ value-of-figure n h =
 pub value-on : (n s : ℕ) → Shifted n → 2 ^ 52 ≤ s → s ≤ 2 ^ 53 → whole ((1021 + digits n) * 2 ^ 52 + s) ≡ s * 2 ^ 11 * unit n
 value-on n s h l u =
     let z = zerosBefore n in
-    let e : 1021 + digits n ≡ 11 + (1074 - z) = omega (arith, h .few) in
+    let e : 1021 + digits n ≡ 11 + (1074 - z) = omega (arith, h .few, h .rest) in
     whole-carry (1021 + digits n) s l u
     ∙ ap (λ (k : ℕ). s * 2 ^ k) e ∙ ap (λ (k : ℕ). s * k) (pow-add 2 11 (1074 - z)) ∙ sym (mul-assoc s (2 ^ 11) (unit n))
 

@@ -5,23 +5,17 @@ use mathlib.Core.List.{List}
 use Prim.Native.Nat.{ℕ, _+_, _-_, _*_, _^_, _≤_, _<_}
 use lib.Dec.{T, eqb}
 use lib.IntN.{pos}
-use lib.Count.{leadingZeros}
-use lib.Ieee.{Float, fin, binary64, ofBits, le}
+use lib.Ieee.{Float, fin, binary64, size, ofBits, le}
 use Rattle.natural.specs.Ceiling.{ceiling}
 use Rattle.octets.specs.Bytes.{bytesOf}
 use Rattle.binary64.specs.Quantity.{whole, one}
 
 -- ── what a load is, by exact values over 2 ^ 1074
 
--- The pattern's value is not below the figure, and that of each pattern before it is. `load-is-least` says it of `loadPattern`, `load-is-unique` that it is so of no other.
+-- The pattern's value is not below the figure, and that of each pattern before it is. `load-is-least` says it of `loadPattern`, `load-is-unique` that it holds of no other.
 pub record IsLoad (figure pattern : ℕ) : Type 0 where
   pub not-below : figure * one ≤ whole pattern
   pub least : (before : ℕ) → before < pattern → whole before < figure * one
-
--- The least, and above the figure by at most one part in 2 ^ 52.
-pub record LoadWithin (figure pattern : ℕ) : Type 0 where
-  pub is-load : IsLoad figure pattern
-  pub adds : (whole pattern - figure * one) * 2 ^ 52 ≤ figure * one
 
 -- ── what it is among every binary64, by the library of IEEE 754
 
@@ -29,18 +23,25 @@ pub record LoadWithin (figure pattern : ℕ) : Type 0 where
 abbrev pub exactly : ℕ → Float
 exactly n = fin false n (pos 0)
 
--- It is at least the figure, and at most any that is at least the figure. Each pattern is compared, with a sign bit, of an infinity, of a NaN too: `load-is-smallest`.
+-- It is at least the figure, and at most any that is at least the figure. Each pattern is compared: with a sign bit, of an infinity, of a NaN too.
 pub record IsSmallest (figure pattern : ℕ) : Type 0 where
   pub at-least : T (le (exactly figure) (ofBits binary64 pattern))
   pub smallest : (other : ℕ) → T (le (exactly figure) (ofBits binary64 other)) → T (le (ofBits binary64 pattern) (ofBits binary64 other))
+
+-- ── what the contracts say of a load: both, and at most one part in 2 ^ 52 above the figure
+
+pub record LoadWithin (figure pattern : ℕ) : Type 0 where
+  pub is-load : IsLoad figure pattern
+  pub is-smallest : IsSmallest figure pattern
+  pub adds : (whole pattern - figure * one) * 2 ^ 52 ≤ figure * one
 
 -- ── which pattern that is, and its bytes
 
 -- how many binary digits a figure has: none for 0, at most 64
 abbrev pub digits : ℕ → ℕ
-digits n = 64 - leadingZeros 64 n
+digits n = size n
 
--- 53 digits of it, rounded up: from 2 ^ 52 to 2 ^ 53
+-- 53 digits of one that is not 0, rounded up: from 2 ^ 52 to 2 ^ 53
 abbrev pub significand : ℕ → ℕ
 significand n = ceiling (n * 2 ^ 53) (2 ^ digits n)
 

@@ -4,7 +4,7 @@ use native.Mathlib.Omega.{arith}
 use borrow.Author.Needs.{needs}
 use Rattle.octets.specs.Bytes.{bytesOf, splice}
 use Rattle.load.specs.Load.{loadBytes}
-use Rattle.load.proofs.Least.{bytes-within}
+use Rattle.load.proofs.Smallest.{bytes-within}
 use Rattle.load.proofs.load.Statement.{statement}
 use Rattle.load.proofs.load.Tie as tie
 

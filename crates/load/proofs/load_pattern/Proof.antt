@@ -17,7 +17,7 @@ returns c = rw (c .if1 .taken)
 
 returns-2 : tie.Need-returns-2
 unfolding loadPattern
-returns-2 c = rw (known c .none-lost, ne-eqb _ 0 (c .if1 .left)) (omega (arith, significand-code _ (known c), known c .few))
+returns-2 c = rw (known c .none-lost, ne-eqb _ 0 (c .if1 .left)) (omega (arith, significand-code _ (known c), known c .few, known c .rest))
 
 pub load-pattern-spec : {M : Type 1} → statement M
 load-pattern-spec =
