@@ -1,17 +1,19 @@
 -- A call of `export`, by what its own contract, as the toolchain reads it, says: `ExportCall`; `met`, `asks-nothing`.
 -- `export-refusal-first`: the refusal is the first of show's conditions that holds. `export-within`: with none each load is that of its record's figure, and
--- `export-in-micrograms` says of each what that means in plain numbers.
+-- `export-in-micrograms`, `export-smallest` say of each what that means.
 -- `export-refused`: beside one stand 32 zeros. `export-reads-only`: the archive is left as it was.
 use mathlib.Core.Path.{_≡_, refl, sym, _∙_, subst}
 use mathlib.Core.List.{List}
-use Prim.Native.Nat.{ℕ, _+_, _-_, _*_, _^_, _≤_, _<_}
+use Prim.Native.Nat.{ℕ, _+_, _*_, _<_}
 use borrow.Fn.Kinds as kinds
 use contract.Lifetimes.{Lfts}
 use denote.Ref.{now}
+use lib.Dec.{T}
+use lib.Ieee.{binary64, ofBits, le}
 use lib.ListN.{replicate}
 use Rattle.octets.specs.Bytes.{numberAt}
-use Rattle.binary64.specs.Quantity.{whole}
-use Rattle.load.proofs.Micrograms.{in-micrograms}
+use Rattle.load.specs.Load.{exactly}
+use Rattle.load.proofs.Micrograms.{InMicrograms, in-micrograms}
 use Rattle.kinds.specs.Refusal.{IsFirst}
 use Rattle.kinds.proofs.Refusals.{first-of-is-first}
 use Rattle.emission.specs.Called.{Called, ends}
@@ -49,11 +51,14 @@ module _ (call : ExportCall) where
   pub export-within : call .result .refusal ≡ 0 → EachWithin b k (call .result .loads)
   export-within e = call .kept .1 e
 
-  -- in plain numbers, where load i of the four is m micrograms
-  pub export-in-micrograms : call .result .refusal ≡ 0 → (i m : ℕ) → i < 4 → whole (numberAt (call .result .loads) (8 * i) 8) ≡ m * 2 ^ 1074
-      → let figure = numberAt b (96 * k + (64 + 8 * i)) 8 in
-      (figure ≤ m) × ((m - figure) * 4503599627370496 ≤ figure)
-  export-in-micrograms e i m h v = in-micrograms _ m v (call .kept .1 e i h)
+  -- load i of the four and its figure, in plain numbers
+  pub export-in-micrograms : call .result .refusal ≡ 0 → (i : ℕ) → i < 4 → InMicrograms (numberAt b (96 * k + (64 + 8 * i)) 8) (numberAt (call .result .loads) (8 * i) 8)
+  export-in-micrograms e i h = in-micrograms _ _ (call .kept .1 e i h)
+
+  -- and every binary64 that is at least the figure is at least the load
+  pub export-smallest : call .result .refusal ≡ 0 → (i other : ℕ) → i < 4 → T (le (exactly (numberAt b (96 * k + (64 + 8 * i)) 8)) (ofBits binary64 other))
+      → T (le (ofBits binary64 (numberAt (call .result .loads) (8 * i) 8)) (ofBits binary64 other))
+  export-smallest e i other h = call .kept .1 e i h .is-smallest .smallest other
 
   pub export-refused : (call .result .refusal ≡ 0 → ⊥) → call .result .loads ≡ replicate 32 0
   export-refused h = call .kept .0 .1 ∙ exported-refused b u k (λ z. h (call .kept .0 .0 ∙ z))

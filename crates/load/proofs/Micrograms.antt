@@ -1,46 +1,55 @@
--- Loads in plain whole numbers of micrograms: `load-is-whole` (each is one), `in-micrograms` (what `LoadWithin` says of it, with no 2 ^ 1074).
+-- Loads in plain whole numbers of micrograms, with no premise about the figure: `within-whole` (what is a load is such a number),
+-- `InMicrograms`, `in-micrograms` (never below the figure, and at most one part in 4,503,599,627,370,496 above).
 use mathlib.Core.Path.{_≡_, refl, sym, ap, _∙_}
 use mathlib.Core.Bool.{Bool, true, false}
-use Prim.Native.Nat.{ℕ, suc, _+_, _-_, _*_, _^_, _≤_, _<_}
-use native.Mathlib.Nat.{le-of-lt, le-of-mul-le-mul-right, lt-of-not-le, mul-assoc}
+use Prim.Native.Nat.{ℕ, zero, suc, _+_, _-_, _*_, _/_, _%_, _^_, _≤_, _<_}
+use native.Mathlib.Nat.{le-of-lt, le-trans, le-of-mul-le-mul-right, mul-assoc, mul-le-mul-right, mul-lt-mul-of-pos-right}
 use native.Mathlib.Omega.{arith}
-use lib.Pow.{pow-pos, pow-add, pow-mono}
 use lib.Dec.{leb}
-use lib.Count.{leading-top}
+use lib.Pow.{pow-pos, pow-add, pow-mono}
 use borrow.Author.Tests.{leb-true, leb-false}
-use Rattle.binary64.specs.Quantity.{whole, one}
-use Rattle.load.specs.Load.{LoadWithin, significand, loadPattern}
-use Rattle.load.proofs.Shifted.{zerosBefore, shifted-facts, rounded-facts}
-use Rattle.load.proofs.Value.{unit, value-of-load}
-use Rattle.load.proofs.Least.{load-exact}
+use Rattle.binary64.specs.Quantity.{wholeAt, whole, one}
+use Rattle.load.specs.Load.{LoadWithin}
+use Rattle.load.proofs.Least.{load-is-least, load-is-unique, load-exact}
 
--- ── each is a whole number
+-- ── from 2 ^ 53 on every pattern is a whole number
 
--- from 2 ^ 53 on the first digit is one of the first eleven
-many-digits : (n : ℕ) → 2 ^ 53 ≤ n → n < 2 ^ 64 → zerosBefore n ≤ 10
-many-digits n l h =
-    let t = leading-top 64 n (omega arith) h in
-    let j : 53 < suc (t .0) = lt-of-not-le (λ (g : suc (t .0) ≤ 53). let m : 2 ^ suc (t .0) ≤ 2 ^ 53 = pow-mono g in omega (arith, t .3)) in
-    omega (arith, t .1)
+too-small : (t c : ℕ) → 0 < c → t < 2 ^ 52 → 2 ^ 53 * c ≤ t → ⊥
+too-small t c p l h = omega arith
 
-from-2^53 : (n : ℕ) → 2 ^ 53 ≤ n → n < 2 ^ 64 → (m : ℕ) × (whole (loadPattern n) ≡ m * one)
-from-2^53 n l h =
-    let z = zerosBefore n in
-    let s = shifted-facts n (omega arith) h in
-    let e : 11 + (1074 - z) ≡ (11 - z) + 1074 = omega (arith, many-digits n l h) in
-    let p : 2 ^ 11 * unit n ≡ 2 ^ (11 - z) * one = sym (pow-add 2 11 (1074 - z)) ∙ ap (λ (k : ℕ). 2 ^ k) e ∙ pow-add 2 (11 - z) 1074 in (
-      significand n * 2 ^ (11 - z),
-      value-of-load n (omega arith) s (rounded-facts n s) ∙ mul-assoc (significand n) (2 ^ 11) (unit n) ∙ ap (λ (k : ℕ). significand n * k) p ∙ sym (mul-assoc (significand n) (2 ^ (11 - z)) one),
-    )
+too-low : (v y c : ℕ) → v < 2 ^ 53 * y → y ≤ c → 2 ^ 53 * c ≤ v → ⊥
+too-low v y c a l h = omega arith
 
-pub load-is-whole : (n : ℕ) → n < 2 ^ 64 → (m : ℕ) × (whole (loadPattern n) ≡ m * one)
-load-is-whole n h = go (leb (2 ^ 53) n) refl
+far : (x t : ℕ) → t < 2 ^ 52 → 2 ^ 53 * one ≤ wholeAt x t → (m : ℕ) × (wholeAt x t ≡ m * one)
+unfolding wholeAt
+far zero t l h = absurd (too-small t one (pow-pos 1074) l h)
+far (suc x) t l h = go (leb 1074 x) refl
   where
-    go : (t : Bool) → leb (2 ^ 53) n ≡ t → (m : ℕ) × (whole (loadPattern n) ≡ m * one)
-    go true e = from-2^53 n (leb-true (2 ^ 53) n e) h
-    go false e = (n, load-exact n (le-of-lt (leb-false (2 ^ 53) n e)))
+    go : (s : Bool) → leb 1074 x ≡ s → (m : ℕ) × ((2 ^ 52 + t) * 2 ^ x ≡ m * one)
+    go true e =
+        let k : x ≡ (x - 1074) + 1074 = omega (arith, leb-true 1074 x e) in
+        ((2 ^ 52 + t) * 2 ^ (x - 1074), ap (λ (y : ℕ). (2 ^ 52 + t) * y) (ap (λ (y : ℕ). 2 ^ y) k ∙ pow-add 2 (x - 1074) 1074) ∙ sym (mul-assoc (2 ^ 52 + t) (2 ^ (x - 1074)) one))
+    go false e =
+        let a : (2 ^ 52 + t) * 2 ^ x < 2 ^ 53 * 2 ^ x = mul-lt-mul-of-pos-right (omega arith) (pow-pos x) in
+        let c : 2 ^ x ≤ one = pow-mono (le-of-lt (leb-false 1074 x e)) in
+        absurd (too-low ((2 ^ 52 + t) * 2 ^ x) (2 ^ x) one a c h)
 
--- ── what is within the bounds
+by-fields : (b : ℕ) → 2 ^ 53 * one ≤ whole b → (m : ℕ) × (whole b ≡ m * one)
+unfolding whole
+by-fields b h = far (b / 2 ^ 52) (b % 2 ^ 52) (omega arith) h
+
+-- ── and up to there a figure is its own load
+
+pub within-whole : (n b : ℕ) → LoadWithin n b → (m : ℕ) × (whole b ≡ m * one)
+within-whole n b w = go (leb (2 ^ 53) n) refl
+  where
+    go : (s : Bool) → leb (2 ^ 53) n ≡ s → (m : ℕ) × (whole b ≡ m * one)
+    go true e = by-fields b (le-trans (mul-le-mul-right one (leb-true (2 ^ 53) n e)) (w .is-load .not-below))
+    go false e =
+        let l = leb-false (2 ^ 53) n e in
+        (n, ap whole (load-is-unique (w .is-load) (load-is-least n (omega arith))) ∙ load-exact n (le-of-lt l))
+
+-- ── how far above
 
 -- over any denominator c
 over : (n m c k : ℕ) → 0 < c → n ≤ m → (m * c - n * c) * k ≤ n * c → (m - n) * k ≤ n
@@ -51,8 +60,15 @@ over n m c k p l h =
     let g : d * c * k ≤ n * c = rw f at h in
     le-of-mul-le-mul-right {m = d * k} {n = n} (omega arith) p
 
-pub in-micrograms : (n m : ℕ) {b : ℕ} → whole b ≡ m * one → LoadWithin n b → (n ≤ m) × ((m - n) * 4503599627370496 ≤ n)
-in-micrograms n m e w =
+-- the pattern b is that of m micrograms: at least n, and at most one part in 2 ^ 52 more
+abbrev pub InMicrograms : ℕ → ℕ → Type 0
+InMicrograms n b = (m : ℕ) × (whole b ≡ m * 2 ^ 1074) × (n ≤ m) × ((m - n) * 4503599627370496 ≤ n)
+
+pub in-micrograms : (n b : ℕ) → LoadWithin n b → InMicrograms n b
+in-micrograms n b w =
+    let v = within-whole n b w in
+    let m = v .0 in
+    let e : whole b ≡ m * one = v .1 in
     let l : n * one ≤ m * one = rw e at (w .is-load .not-below) in
     let p : n ≤ m = le-of-mul-le-mul-right l (pow-pos 1074) in
-    (p, over n m one (2 ^ 52) (pow-pos 1074) p (rw e at (w .adds)))
+    (m, e, p, over n m one (2 ^ 52) (pow-pos 1074) p (rw e at (w .adds)))

@@ -1,6 +1,7 @@
 -- `load-is-smallest`: of every binary64, by the library of IEEE 754, whichever is at least the figure is at least the load, which is one of them.
 -- `load-value`: the library gives the load's pattern the exact value that `IsLoad` speaks of. `load-back`: its double has its pattern.
--- `load-within`: all that the contracts say of a load; `bytes-within`: so of its bytes. `smallest-of-values`: what it is to be the smallest, in exact values.
+-- `load-within`: all that the contracts say of a load; `bytes-within`: so of its bytes.
+-- What it is to be the smallest, in exact values: `smallest-of-values`, `smallest-is-load`.
 use mathlib.Core.Path.{_≡_, refl, sym, ap, _∙_, subst}
 use mathlib.Core.Bool.{Bool, true, false, cond}
 use mathlib.Core.List.{List}
@@ -19,8 +20,8 @@ use borrow.Author.Tests.{leb-false, lt-leb}
 use Rattle.octets.specs.Bytes.{numberOf}
 use Rattle.binary64.specs.Quantity.{whole, one}
 use Rattle.binary64.proofs.Exact.{exact-value, pattern-back}
-use Rattle.binary64.proofs.Order.{whole-monotone}
-use Rattle.load.specs.Load.{IsSmallest, LoadWithin, exactly, loadPattern, loadBytes}
+use Rattle.binary64.proofs.Order.{whole-increasing, whole-monotone}
+use Rattle.load.specs.Load.{IsLoad, IsSmallest, LoadWithin, exactly, loadPattern, loadBytes}
 use Rattle.load.proofs.Least.{load-is-least, load-adds, load-finite, load-read}
 
 pub load-value : (n : ℕ) → n < 2 ^ 64 → HasValue (ofBits binary64 (loadPattern n)) false (whole (loadPattern n)) one
@@ -144,3 +145,10 @@ smallest-of-values n b c p q s l =
     let f = positive-of-value (ofBits binary64 b) (whole b) one (exact-value b p) (lt-of-lt-of-le z a) in
     let g = positive-of-value (ofBits binary64 c) (whole c) one (exact-value c q) (lt-of-lt-of-le z l) in
     le-of-mul-le-mul-right (values-of-le (ofBits binary64 b) (ofBits binary64 c) (whole b) one (whole c) one f g (exact-value b p) (exact-value c q) t) (pow-pos 1074)
+
+-- so the smallest of every binary64 is the load by values too
+pub smallest-is-load : (n b : ℕ) → b < 2047 * 2 ^ 52 → IsSmallest (suc n) b → IsLoad (suc n) b
+smallest-is-load n b p s = record {
+  not-below = value-at-least n (ofBits binary64 b) (whole b) one (exact-value b p) (s .at-least);
+  least = λ c l. lt-of-not-le (λ (g : suc n * one ≤ whole c). not-le-of-lt (whole-increasing c b l) (smallest-of-values n b c p (omega arith) s g));
+}
