@@ -15,7 +15,7 @@ unfoldable pub loadsOf : List ℕ → List ℕ
 loadsOf [] = []
 loadsOf (f ∷ fs) = loadBytes f ++ loadsOf fs
 
--- those of the figures in what show hands out
+-- those of the figures in what show hands out; beside a refusal zeros
 unfoldable pub exportBytes : List ℕ → ℕ → ℕ → List ℕ
 exportBytes b u k = accepted (showRefusal b u k) (loadsOf (recordFigures (showPart b u k))) (replicate 32 0)
 

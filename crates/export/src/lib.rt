@@ -9,6 +9,7 @@ use archive::show_refusal;
 use load::load_pattern;
 use records::put_figures;
 
+// A pattern is written as a figure is: eight bytes, the lowest first.
 fn loads_of(figures: [u64; 4]) -> [u8; 32]
     ensures { λ r. ⌜ r ≡ loadsOf figures ⌝ }
 {
