@@ -3,6 +3,7 @@
 --   gather                            a chain is its numbers times its other factors
 --   others-positive, chain-positive   a chain's lower number is not 0, where that of its numbers is not
 --   one-term, two-terms               kilograms to micrograms, of an equation with one chain and with two
+--   no-equation                       without a chain the figure is 0
 --   AllPositive, emission-positive    an equation's lower number is not 0
 -- What the code multiplies is in Multiplied, the constants of the rows in Tables.
 use mathlib.Core.Path.{_≡_, refl, sym, ap, _∙_}
@@ -11,11 +12,11 @@ use Prim.Native.Nat.{_<_}
 use native.Mathlib.Nat.{mul-pos}
 use native.Mathlib.Omega.{arith}
 use lib.Pow.{pow-pos}
-use Rattle.product.specs.Ratio.{Ratio, _over_, _·_, _⊕_, oneLess, exactly, Same}
+use Rattle.product.specs.Ratio.{Ratio, _over_, _·_, _⊕_, oneLess, exactly, Same, roundedUp}
 use Rattle.product.specs.Chain.{Factor, number, quantity, less, chain}
 use Rattle.equations.specs.Equations.{total, microgram, micrograms}
 use Rattle.equations.specs.Constants.{numbers}
-use Rattle.product.proofs.Ratios.{same-of, times-assoc, times-swap, plus-zero, distributes-left}
+use Rattle.product.proofs.Ratios.{same-of, times-assoc, times-swap, plus-zero, distributes-left, rounded-nothing}
 
 -- ── a chain's factors other than its numbers
 
@@ -58,6 +59,10 @@ two-terms l m =
     same-of (λ j. sym (times-assoc microgram (numbers l) (chain (others l))) j ⊕ sym (times-assoc microgram (numbers m) (chain (others m))) j)
     (λ j. microgram · (gather l j ⊕ (plus-zero (chain m) ∙ gather m) j))
     (sym (distributes-left p q microgram))
+
+pub no-equation : 0 ≡ roundedUp (micrograms [])
+unfolding total
+no-equation = sym (rounded-nothing 1 (omega arith))
 
 -- ── an emission's lower number
 

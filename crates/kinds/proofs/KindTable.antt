@@ -1,5 +1,5 @@
 -- Laws of the table of kinds: `no-kind` (what is none of them), `each-kind` (what holds of each), `tested` (one computed test of all, by their numbers),
--- `not-summed` (of which nothing is summed). Of ranges: `inside`.
+-- `not-summed` (of which nothing is summed). Of any table that is numbered from 1: `beyond` (what is none of its entries). Of ranges: `inside`.
 -- Laws of limits are in `Limits`.
 use mathlib.Core.Path.{_≡_, refl}
 use mathlib.Core.Bool.{Bool, true, false, _&&_, _||_}
@@ -23,7 +23,7 @@ inside r n = (
 -- ── kinds by their numbers
 
 -- what a match on the numbers from 1 to n leaves to its last arm
-abbrev OtherThan : ℕ → ℕ → Type 0
+abbrev pub OtherThan : ℕ → ℕ → Type 0
 OtherThan zero k = Unit {0}
 OtherThan (suc n) k = OtherThan n k × (k ≡ suc n → ⊥)
 
@@ -31,10 +31,13 @@ above : (n k : ℕ) → 0 < k → OtherThan n k → n < k
 above zero k h o = h
 above (suc n) k h o = let l = above n k h (o .0) in let e = o .1 in omega arith
 
+pub beyond : {A : Type 0} (none : A) (xs : List A) (k : ℕ) → OtherThan (length xs) k → getD (none ∷ xs) k none ≡ none
+beyond none xs zero o = refl
+beyond none xs (suc k) o = List·getD-eq-default (none ∷ xs) none (above (length xs) (suc k) (omega arith) o)
+
 pub no-kind : (k : ℕ) → OtherThan (length kinds) k → kindAt k ≡ noKind
 unfolding kindAt
-no-kind zero o = refl
-no-kind (suc k) o = List·getD-eq-default (noKind ∷ kinds) noKind (above (length kinds) (suc k) (omega arith) o)
+no-kind = beyond noKind kinds
 
 -- from 1 to n
 abbrev pub Each : (ℕ → Type 0) → ℕ → Type 0

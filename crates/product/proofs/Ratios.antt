@@ -3,7 +3,7 @@
 --   same-of, same-trans                              `Same` is kept by equality, and is transitive
 --   same-times, same-scaled, same-plus               and kept by products and sums
 --   distributes, distributes-left                    a product of a sum is a sum of products
---   rounded-same                                     the same value is rounded up to the same number
+--   rounded-same, rounded-nothing                    the same value is rounded up to the same number; 0 to 0
 --   AtMost, one-less-at-most, at-most-times, at-most-plus   a value is at most a whole number
 --   scaled-fits                                      k over d of a value, rounded up, is at most M
 -- Chains of factors are in Chains.
@@ -11,7 +11,7 @@ use mathlib.Core.Path.{_≡_, refl, sym, ap, _∙_}
 use Prim.Native.Nat.{ℕ, _+_, _*_, _≤_, _<_}
 use native.Mathlib.Nat.{mul-one, mul-assoc, mul-comm, mul-left-comm, mul-pos, eq-of-mul-eq-mul-right, mul-le-mul, mul-le-mul-right}
 use native.Mathlib.Omega.{arith}
-use Rattle.natural.proofs.Ceiling.{ceiling-same, ceiling-at-most}
+use Rattle.natural.proofs.Ceiling.{ceiling-same, ceiling-zero, ceiling-at-most}
 use Rattle.product.specs.Ratio.{Ratio, _over_, _·_, _⊕_, oneLess, Same, roundedUp}
 
 -- ── equal number by number
@@ -91,6 +91,9 @@ distributes-left p q r = same-of (times-comm r (p ⊕ q)) (λ j. times-comm r p 
 
 pub rounded-same : (p q : Ratio) → 0 < p .lower → 0 < q .lower → Same p q → roundedUp p ≡ roundedUp q
 rounded-same p q h g e = ceiling-same (p .upper) (p .lower) (q .upper) (q .lower) h g e
+
+pub rounded-nothing : (d : ℕ) → 0 < d → roundedUp (0 over d) ≡ 0
+rounded-nothing d h = ceiling-zero 0 d h .1 refl
 
 -- ── at most a whole number
 
