@@ -1,20 +1,26 @@
 -- What holds of each equation of a case: by row, by user, and of the four exact values by route.
 --   by-row, with-loss        with row 0 and with the others; whatever the user
+--   with-usage               of kind 8, by the usage on site
 --   OfAll, alone             of the emissions to water, air and soil; where water alone has an equation
 --   each-value               of the emissions to water, air and soil, so of the four exact values
 use mathlib.Core.Path.{_≡_, refl}
 use mathlib.Core.Bool.{Bool, true, false, cond}
 use mathlib.Core.List.{List, [], _∷_}
-use Prim.Native.Nat.{ℕ, zero, suc, _<_}
+use Prim.Native.Nat.{ℕ, zero, suc, _≤_, _<_}
 use native.Mathlib.Omega.{arith}
 use lib.Dec.{eqb}
+use lib.Ieee.{Float}
 use lib.ListN.{getD}
 use borrow.Author.Tests.{eqb-true}
 use Rattle.kinds.specs.Case.{routeOf}
+use Rattle.kinds.specs.Polymers.{usageAt}
+use Rattle.kinds.specs.declared.polymers.Usage.{Usage}
+use Rattle.kinds.specs.declared.polymers.Usage.the-variants.{NoUsage, Tonnes}
+use Rattle.kinds.proofs.UsageTable.{mostUsed, usage-small}
 use Rattle.scenario.specs.Decoding.{caseOf, headOf}
 use Rattle.product.specs.Ratio.{Ratio, _over_}
 use Rattle.product.specs.Chain.{Factor, number}
-use Rattle.equations.specs.Equations.{loss, Emitted, emitted, toWater, toAir, toSoil, micrograms}
+use Rattle.equations.specs.Equations.{loss, plastics, plasticsAt, Emitted, emitted, toWater, toAir, toSoil, micrograms}
 use Rattle.emission.specs.Figures.{exactValues}
 
 -- with row 0, and with the others
@@ -31,6 +37,14 @@ with-loss P user f g h = go (eqb user 1)
     go : (z : Bool) → P (f (cond z (number 3 100) (number 5 100)))
     go true = g
     go false = h
+
+-- without a usage there is no equation
+pub with-usage : (P : List (List Factor) → Type 0) (row user : ℕ) (a x : Float) (t : ℕ) → P [] → ((q : ℕ) → q ≤ mostUsed → P (plastics q a x t)) → P (plasticsAt (usageAt row user) a x t)
+with-usage P row user a x t none some = go (usageAt row user) refl
+  where
+    go : (u : Usage) → usageAt row user ≡ u → P (plasticsAt u a x t)
+    go NoUsage e = none
+    go (Tonnes q) e = some q (usage-small row user q e)
 
 -- of the emissions to water, air and soil
 abbrev pub OfAll : (List (List Factor) → Type 0) → Emitted → Type 0

@@ -12,7 +12,8 @@ use Rattle.octets.specs.Bytes.{bytesOf, numberOf, numberAt}
 use Rattle.binary64.specs.Pattern.{isUnsignedFinite}
 use Rattle.binary64.specs.Quantity.{wholeAt, whole}
 use Rattle.octets.proofs.Bools.{both, every}
-use Rattle.kinds.specs.Case.{kinds, kindAt, notSixtyFour, kindUnknown, rowUnknown, routeNotAllowed, userNotAllowed, countNotAllowed, notNumber, notZeroBytes, overLimit, sumFrom, sumWithin, summedOf, sumOver, refusalOf}
+use Rattle.kinds.specs.Polymers.{polymers, usagesOf, usageAt}
+use Rattle.kinds.specs.Case.{kinds, kindAt, notSixtyFour, kindUnknown, rowUnknown, routeNotAllowed, userNotAllowed, usageMissing, countNotAllowed, notNumber, notZeroBytes, overLimit, sumFrom, sumWithin, summedOf, sumOver, refusalOf}
 use Rattle.scenario.specs.Decoding.{caseWith, caseOfPatterns, headOf}
 use Rattle.kinds.specs.Builder.{caseBytes}
 use Rattle.product.specs.Ratio.{Ratio}
@@ -55,7 +56,7 @@ by-test = all-by-test holds Holds (λ e. given (e .case) (e .expected))
 -- ── the tables
 
 computed : (every holds examples ≡ true) × (every holds secondRoutes ≡ true)
-unfolding every holds gives same examples secondRoutes caseBytes bytesOf exactValues emitted chain total cities cityAt hygienes hygieneAt caseOfPatterns caseWith headOf numberAt numberOf refusalOf notSixtyFour kindUnknown rowUnknown routeNotAllowed userNotAllowed countNotAllowed notNumber notZeroBytes overLimit sumFrom sumWithin summedOf sumOver kinds kindAt isUnsignedFinite whole wholeAt add le ofBits toBits
+unfolding every holds gives same examples secondRoutes caseBytes bytesOf exactValues emitted chain total cities cityAt hygienes hygieneAt caseOfPatterns caseWith headOf numberAt numberOf refusalOf notSixtyFour kindUnknown rowUnknown routeNotAllowed userNotAllowed usageMissing usageAt usagesOf polymers countNotAllowed notNumber notZeroBytes overLimit sumFrom sumWithin summedOf sumOver kinds kindAt isUnsignedFinite whole wholeAt add le ofBits toBits
 computed = (refl, refl)
 
 pub worked-examples : All Holds examples

@@ -13,14 +13,15 @@ use lib.ListN.{getD}
 use Rattle.natural.proofs.Ceiling.{ceiling-at-most}
 use Rattle.octets.proofs.Bools.{every, every-at}
 use Rattle.kinds.specs.Case.{refusalOf}
+use Rattle.kinds.specs.Polymers.{usageAt}
 use Rattle.scenario.specs.Decoding.{caseOf, headOf}
 use Rattle.scenario.specs.declared.Case.{Case}
-use Rattle.scenario.specs.declared.Case.the-variants.{Measured, Unknown, Application, Sanitary, Formulation, Hygiene, Toilets}
+use Rattle.scenario.specs.declared.Case.the-variants.{Measured, Unknown, Application, Sanitary, Formulation, Hygiene, Toilets, Plastics}
 use Rattle.scenario.specs.declared.Head.{Head}
 use Rattle.product.specs.Ratio.{_over_, _·_, exactly, roundedUp}
 use Rattle.product.specs.Chain.{Factor, number, quantity, less, chain}
 use Rattle.equations.specs.Rows.{cities, noCity, cityAt, hygienes, noHygiene, hygieneAt}
-use Rattle.equations.specs.Equations.{total, loss, measured, measuredAt, unknown, unknownAt, application, applicationAt, formulation, consumption, consumptionAt, emitted, toWater, toAir, toSoil, microgram, micrograms}
+use Rattle.equations.specs.Equations.{total, loss, measured, measuredAt, unknown, unknownAt, application, applicationAt, formulation, consumption, consumptionAt, plastics, plasticsAt, emitted, toWater, toAir, toSoil, microgram, micrograms}
 use Rattle.emission.specs.Figures.{exactValues, figuresOf}
 use Rattle.equations.specs.Ranges.{Within, InRange}
 use Rattle.equations.specs.Constants.{numbers}
@@ -29,7 +30,7 @@ use Rattle.equations.proofs.Chains.{others, gather}
 use Rattle.equations.proofs.Multiplied.{productOf, chain-at-most, remainder-at-most, term, next}
 use Rattle.emission.proofs.Accepted.{figure-rounded}
 use Rattle.emission.proofs.InRanges.{in-range}
-use Rattle.emission.proofs.Cases.{by-row, with-loss, OfAll, alone, each-value}
+use Rattle.emission.proofs.Cases.{by-row, with-loss, with-usage, OfAll, alone, each-value}
 use Rattle.emission.proofs.Positive.{lower-not-zero}
 
 -- ── chains and sums of chains
@@ -163,6 +164,13 @@ capped (Toilets a b c d e) h r =
           (at-most-times (exactly b) (chain (less d ∷ quantity e ∷ [])) 1 (1 * productOf (1 ∷ [])) (w .1 .1 .1 .0 .most) (remainder-at-most d (e ∷ []) (1 ∷ []) (w .1 .1 .1 .1 .0, tt))))) (omega arith),
       tt,
     )
+capped (Plastics a b c) h r =
+    let t = r .0 in
+    let w = r .1 in
+    let to : (x : Float) → Within (a ∷ x ∷ []) (1 ∷ 1 ∷ []) → Capped (plasticsAt (usageAt (h .row) (h .user)) a x (h .count)) =
+    (λ x v. with-usage Capped (h .row) (h .user) a x (h .count) tt
+    (λ q l. (cap-chain (term (plastics q a x (h .count))) (productOf (1 ∷ 1 ∷ [])) (chain-at-most (a ∷ x ∷ []) (1 ∷ 1 ∷ []) v) (omega arith), tt))) in
+    (to c (w .0, (w .1 .1 .0, tt)), to b (w .0, (w .1 .0, tt)), tt)
 
 -- ── the four figures
 

@@ -53,7 +53,10 @@ module _ (b : List ℕ) (w : WithinRanges b) where
       let z = r .1 in
       (t .0 (omega arith) .0, (listed 0 (omega arith) (q .0), (listed 1 (omega arith) (q .1), (listed 2 (omega arith) (q .2), (listed 3 (omega arith) (q .3), (listed 4 (omega arith) (q .4), tt)))))))
       then (λ r t q. (r .1, (own 5 (omega arith) (q .5), (own 4 (omega arith) (q .4), (own 3 (omega arith) (q .3), (listed 0 (omega arith) (q .0), (listed 1 (omega arith) (q .1), tt)))))))
-      then (λ r t q. (count-most (rowOf b) (countOf b) _ t, (listed 3 (omega arith) (q .3), (listed 0 (omega arith) (q .0), (listed 2 (omega arith) (q .2), (listed 1 (omega arith) (q .1), (listed 4 (omega arith) (q .4), tt))))))))
+      then (λ r t q. (count-most (rowOf b) (countOf b) _ t, (listed 3 (omega arith) (q .3), (listed 0 (omega arith) (q .0), (listed 2 (omega arith) (q .2), (listed 1 (omega arith) (q .1), (listed 4 (omega arith) (q .4), tt)))))))
+      then (λ r t q.
+      let z = r .0 in
+      (t .1 (λ n. omega arith) .0, (listed 0 (omega arith) (q .0), (listed 1 (omega arith) (q .1), (listed 2 (omega arith) (q .2), tt))))))
       (kindOf b) (w .kind) (w .row) (w .count) (w .quantities)
 
 pub in-range : (b : List ℕ) → refusalOf b ≡ 0 → InRange (caseOf b) (headOf b)

@@ -11,22 +11,23 @@ use lib.ListN.{getD}
 use lib.Ieee.{Float}
 use borrow.Author.Tests.{leb-true}
 use Rattle.kinds.specs.Case.{refusalOf}
+use Rattle.kinds.specs.Polymers.{usageAt}
 use Rattle.scenario.specs.Decoding.{caseOf, headOf}
 use Rattle.scenario.specs.declared.Case.{Case}
-use Rattle.scenario.specs.declared.Case.the-variants.{Measured, Unknown, Application, Sanitary, Formulation, Hygiene, Toilets}
+use Rattle.scenario.specs.declared.Case.the-variants.{Measured, Unknown, Application, Sanitary, Formulation, Hygiene, Toilets, Plastics}
 use Rattle.scenario.specs.declared.Head.{Head}
 use Rattle.octets.proofs.Bools.{both, every, every-at}
 use Rattle.product.specs.Ratio.{_over_}
 use Rattle.equations.specs.Rows.{cities, noCity, cityAt, hygienes, noHygiene, hygieneAt}
 use Rattle.product.specs.Chain.{Factor, number, quantity}
-use Rattle.equations.specs.Equations.{emitted, measuredAt, unknownAt, application, applicationAt, formulation, consumptionAt, toWater, toAir, toSoil}
+use Rattle.equations.specs.Equations.{emitted, measuredAt, unknownAt, application, applicationAt, formulation, consumptionAt, plasticsAt, toWater, toAir, toSoil}
 use Rattle.emission.specs.Figures.{exactValues}
 use Rattle.equations.specs.Ranges.{InRange}
 use Rattle.equations.specs.Constants.{numbers}
 use Rattle.equations.proofs.Chains.{AllPositive, emission-positive}
 use Rattle.equations.proofs.Tables.{older-positive}
 use Rattle.emission.proofs.InRanges.{in-range}
-use Rattle.emission.proofs.Cases.{by-row, with-loss, OfAll, alone, each-value}
+use Rattle.emission.proofs.Cases.{by-row, with-loss, with-usage, OfAll, alone, each-value}
 
 -- ── the rows of the paper: one computed test over each table
 
@@ -73,6 +74,11 @@ positive-emitted (Sanitary a b c) h r = let d = by-row (λ t. 1 ≤ t) (h .row) 
 positive-emitted (Formulation a b c d e) h r = (by-formulation a b c (h .count) (r .0), by-formulation a b d (h .count) (r .0), by-formulation a b e (h .count) (r .0))
 positive-emitted (Hygiene a b g m s) h r = alone (by-row AllPositive (h .row) _ _ (λ z. (omega arith, tt)) (consumption-rows a b (h .row)))
 positive-emitted (Toilets a b c d e) h r = alone (omega arith, tt)
+positive-emitted (Plastics a b c) h r =
+    let t = r .0 in
+    let to : (x : Float) → AllPositive (plasticsAt (usageAt (h .row) (h .user)) a x (h .count)) =
+    (λ x. with-usage AllPositive (h .row) (h .user) a x (h .count) tt (λ q l. (omega arith, tt))) in
+    (to c, to b, tt)
 
 -- ── the four exact values
 

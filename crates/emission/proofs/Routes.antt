@@ -7,7 +7,7 @@ use lib.ListN.{getD}
 use Rattle.kinds.specs.Builder.{caseBytes}
 use Rattle.scenario.specs.Decoding.{caseOfPatterns, caseOf, headOf}
 use Rattle.scenario.specs.declared.Case.{Case}
-use Rattle.scenario.specs.declared.Case.the-variants.{Measured, Unknown, Application, Sanitary, Formulation, Hygiene, Toilets}
+use Rattle.scenario.specs.declared.Case.the-variants.{Measured, Unknown, Application, Sanitary, Formulation, Hygiene, Toilets, Plastics}
 use Rattle.scenario.specs.declared.Head.{Head}
 use Rattle.octets.specs.Bytes.{bytesOf, numberAt}
 use Rattle.equations.specs.Equations.{emitted, micrograms}
@@ -26,6 +26,7 @@ emitted-alike (Sanitary a b c) row user t route route′ dossier dossier′ = re
 emitted-alike (Formulation a b c d e) row user t route route′ dossier dossier′ = refl
 emitted-alike (Hygiene a b g m s) row user t route route′ dossier dossier′ = refl
 emitted-alike (Toilets a b c d e) row user t route route′ dossier dossier′ = refl
+emitted-alike (Plastics a b c) row user t route route′ dossier dossier′ = refl
 
 pub by-either-route : (kind row user t dossier dossier′ a b c d e f : ℕ)
     → (let first = exactValues (caseBytes kind row 1 user t dossier a b c d e f) in

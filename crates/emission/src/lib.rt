@@ -1,5 +1,5 @@
 // The daily emissions of a case: four figures in whole micrograms, each its exact value rounded up once.
-// specs/ says what a figure is; crate `equations` has the equations of the seven kinds.
+// specs/ says what a figure is; crate `equations` has the equations of the eight kinds.
 ghost use mathlib.Core.Path.{_≡_};
 ghost use mathlib.Core.Bool.{cond};
 ghost use mathlib.Core.List.{[], _∷_};
@@ -71,6 +71,11 @@ fn emissions_of(case: Case, head: Head) -> Emissions
             disintegrated,
             to_plant,
         } => only_water(equations::toilets(dose, active, density, disintegrated, to_plant, head)),
+        Case::Plastics {
+            active,
+            to_air,
+            to_water,
+        } => equations::plastics(active, to_air, to_water, head),
     }
 }
 

@@ -12,7 +12,8 @@ use Rattle.octets.specs.Bytes.{bytesOf, numberOf, numberAt}
 use Rattle.binary64.specs.Pattern.{isUnsignedFinite}
 use Rattle.binary64.specs.Quantity.{wholeAt, whole}
 use Rattle.octets.proofs.Bools.{both, every}
-use Rattle.kinds.specs.Case.{kinds, kindAt, notSixtyFour, kindUnknown, rowUnknown, routeNotAllowed, userNotAllowed, countNotAllowed, notNumber, notZeroBytes, overLimit, sumFrom, sumWithin, summedOf, sumOver, refusalOf}
+use Rattle.kinds.specs.Polymers.{polymers, usagesOf, usageAt}
+use Rattle.kinds.specs.Case.{kinds, kindAt, notSixtyFour, kindUnknown, rowUnknown, routeNotAllowed, userNotAllowed, usageMissing, countNotAllowed, notNumber, notZeroBytes, overLimit, sumFrom, sumWithin, summedOf, sumOver, refusalOf}
 use Rattle.scenario.specs.Decoding.{caseWith, caseOfPatterns, caseOf, headOf}
 use Rattle.kinds.specs.Builder.{caseBytes}
 use Rattle.product.specs.Ratio.{Ratio, Same}
@@ -58,5 +59,5 @@ worked-by-test e t =
     (eqb-true (refusalOf (e .case)) 0 (p .0), same-by-test _ _ (q .0), same-by-test _ _ (r .0), same-by-test _ _ (r .1))
 
 pub row-examples : All Worked rowExamples
-unfolding every worked same rowExamples caseBytes bytesOf emitted chain total cities cityAt hygienes hygieneAt caseOfPatterns caseWith headOf numberAt numberOf refusalOf notSixtyFour kindUnknown rowUnknown routeNotAllowed userNotAllowed countNotAllowed notNumber notZeroBytes overLimit sumFrom sumWithin summedOf sumOver kinds kindAt isUnsignedFinite whole wholeAt add le ofBits toBits
+unfolding every worked same rowExamples caseBytes bytesOf emitted chain total cities cityAt hygienes hygieneAt caseOfPatterns caseWith headOf numberAt numberOf refusalOf notSixtyFour kindUnknown rowUnknown routeNotAllowed userNotAllowed usageMissing usageAt usagesOf polymers countNotAllowed notNumber notZeroBytes overLimit sumFrom sumWithin summedOf sumOver kinds kindAt isUnsignedFinite whole wholeAt add le ofBits toBits
 row-examples = all-by-test worked Worked worked-by-test rowExamples refl

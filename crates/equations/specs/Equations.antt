@@ -1,11 +1,14 @@
--- Equations 1 to 7 as paper 01 prints them, factor by factor in its order, in kg per day.
+-- Equations 1 to 7 as paper 01 prints them and 8 as request No. 2 does, factor by factor in its order, in kg per day.
 use mathlib.Core.Bool.{cond}
 use mathlib.Core.List.{List, [], _∷_, _++_}
 use Prim.Native.Nat.{ℕ, _-_, _*_}
 use lib.Dec.{eqb}
 use lib.Ieee.{Float}
+use Rattle.kinds.specs.Polymers.{usageAt}
+use Rattle.kinds.specs.declared.polymers.Usage.{Usage}
+use Rattle.kinds.specs.declared.polymers.Usage.the-variants.{NoUsage, Tonnes}
 use Rattle.scenario.specs.declared.Case.{Case}
-use Rattle.scenario.specs.declared.Case.the-variants.{Measured, Unknown, Application, Sanitary, Formulation, Hygiene, Toilets}
+use Rattle.scenario.specs.declared.Case.the-variants.{Measured, Unknown, Application, Sanitary, Formulation, Hygiene, Toilets, Plastics}
 use Rattle.scenario.specs.declared.Head.{Head}
 use Rattle.product.specs.Ratio.{Ratio, _over_, _·_, _⊕_}
 use Rattle.product.specs.Chain.{Factor, number, quantity, less, chain}
@@ -56,7 +59,7 @@ application a A volume R B N = (A ∷ volume ∷ R ∷ quantity a ∷ B ∷ numb
 abbrev pub applicationAt : Float → Factor → City → List (List Factor)
 applicationAt a B r = application a (fixed (r .area)) (fixed (r .volume)) (fixed (r .density)) B (r .houses)
 
--- ── equations 4 to 7
+-- ── equations 4 to 8
 
 -- 4. E = a·0.1·1000·0.002·(1 − b)·c/D
 abbrev pub sanitary : Float → Float → Float → ℕ → List (List Factor)
@@ -76,6 +79,15 @@ consumptionAt a b r = consumption a b (fixed (r .grams)) (fixed (r .uses)) (fixe
 -- 7. E = a·c·b·20·(1 − d)·e·(2000/60)·N
 abbrev pub toilets : Float → Float → Float → Float → Float → ℕ → List (List Factor)
 toilets a b c d e N = (quantity a ∷ quantity c ∷ quantity b ∷ number 20 1 ∷ less d ∷ quantity e ∷ number 2000 60 ∷ number N 1 ∷ []) ∷ []
+
+-- 8. E = Q·1000·a·b/T for air, with c for water
+abbrev pub plastics : ℕ → Float → Float → ℕ → List (List Factor)
+plastics Q a b T = (number Q 1 ∷ number 1000 1 ∷ quantity a ∷ quantity b ∷ number 1 T ∷ []) ∷ []
+
+-- without a usage Q there is no equation, and the case is refused
+abbrev pub plasticsAt : Usage → Float → Float → ℕ → List (List Factor)
+plasticsAt NoUsage a b T = []
+plasticsAt (Tonnes Q) a b T = plastics Q a b T
 
 -- ── the emissions of a case to water, air and soil; a sum of no chains is 0
 
@@ -109,6 +121,9 @@ emitted (Hygiene a b g m s) h =
     (consumption a b (quantity g) (quantity m) (quantity s))
     (consumptionAt a b (hygieneAt (h .row))))
 emitted (Toilets a b c d e) h = onlyWater (toilets a b c d e (cond (eqb (h .row) 0) (h .count) 1))
+emitted (Plastics a b c) h =
+    let Q = usageAt (h .row) (h .user) in
+    record { water = plasticsAt Q a c (h .count); air = plasticsAt Q a b (h .count); soil = [] }
 
 abbrev pub toWater : Case → Head → List (List Factor)
 toWater k h = emitted k h .water

@@ -6,7 +6,7 @@ use Prim.Native.Nat.{ℕ, _≤_}
 use lib.Ieee.{Float}
 use Rattle.product.specs.Ranges.{UpTo}
 use Rattle.scenario.specs.declared.Case.{Case}
-use Rattle.scenario.specs.declared.Case.the-variants.{Measured, Unknown, Application, Sanitary, Formulation, Hygiene, Toilets}
+use Rattle.scenario.specs.declared.Case.the-variants.{Measured, Unknown, Application, Sanitary, Formulation, Hygiene, Toilets, Plastics}
 use Rattle.scenario.specs.declared.Head.{Head}
 
 -- each up to its own limit
@@ -28,3 +28,4 @@ InRange (Sanitary a b c) h = (h .row ≡ 0 → 1 ≤ h .count) × Within (b ∷ 
 InRange (Formulation a b c d e) h = (1 ≤ h .count) × Within (a ∷ b ∷ c ∷ d ∷ e ∷ []) (1000000 ∷ 1 ∷ 1 ∷ 1 ∷ 1 ∷ [])
 InRange (Hygiene a b g m s) h = (h .row ≤ 5) × Within (s ∷ m ∷ g ∷ a ∷ b ∷ []) (1 ∷ 100 ∷ 10000 ∷ 1 ∷ 1 ∷ [])
 InRange (Toilets a b c d e) h = (h .count ≤ 100) × Within (d ∷ a ∷ c ∷ b ∷ e ∷ []) (1 ∷ 1 ∷ 5 ∷ 1 ∷ 1 ∷ [])
+InRange (Plastics a b c) h = (1 ≤ h .count) × Within (a ∷ b ∷ c ∷ []) (1 ∷ 1 ∷ 1 ∷ [])

@@ -1,6 +1,7 @@
 -- Cases worked by pencil, beside the paper's own P1 to P10 (crate emission): each row of the default tables, and row 0 of each kind.
 -- No two quantities of a case are equal. Each row of kind 3 is worked by both users; with row 0 T stands at both its ends, and there as with the paper's
 -- rows each quantity has two values, of which the second may be one of P1 to P10: whatever were left out of an equation, or taken for another, a case would show it.
+-- Of kind 8 each cell of the table that holds a usage is worked, process by process where the table goes polymer by polymer.
 use mathlib.Core.Path.{_≡_}
 use mathlib.Core.List.{List, [], _∷_}
 use Prim.Native.Nat.{ℕ, _*_}
@@ -28,6 +29,10 @@ pub record RowExample : Type 0 where
 infix 2 _gives_
 abbrev pub _gives_ : List ℕ → Ratio → RowExample
 b gives w = record { case = b; water = w; air = nothing; soil = nothing }
+
+-- kind 8 with a 1/2, b 1/4, c 1/8 and T 250: a quarter of Q to water, half of it to air, in kg
+abbrev pub plasticsWith : (row user Q : ℕ) → RowExample
+plasticsWith row user Q = record { case = caseBytes 8 row 1 user 250 7 half quarter eighth 0 0 0; water = kg Q 4; air = kg Q 2; soil = nothing }
 
 -- kind row route user T dossier a b c d e f
 unfoldable pub rowExamples : List RowExample
@@ -94,6 +99,50 @@ rowExamples =
     ∷ (caseBytes 7 1 1 0 0 7 three-quarters eighth five quarter thirty-second 0 gives kg 1875 256)
     ∷ (caseBytes 7 0 1 0 1 7 half quarter five three-quarters eighth 0 gives kg 390625 30000)
     ∷ (caseBytes 7 0 1 0 100 7 eighth half unit quarter thirty-second 0 gives kg 3125 32)
+    -- kind 8: 1000·Q·a·c/T to water, with b to air; by an open process
+    ∷ plasticsWith 4 1 988
+    ∷ plasticsWith 5 1 744
+    ∷ plasticsWith 6 1 605
+    ∷ plasticsWith 8 1 78
+    ∷ plasticsWith 9 1 176
+    ∷ plasticsWith 10 1 39
+    ∷ plasticsWith 11 1 55
+    ∷ plasticsWith 15 1 575
+    -- by a partially open one
+    ∷ plasticsWith 1 2 23100
+    ∷ plasticsWith 2 2 2070
+    ∷ plasticsWith 3 2 8880
+    ∷ plasticsWith 5 2 3990
+    ∷ plasticsWith 6 2 389
+    ∷ plasticsWith 11 2 207
+    ∷ plasticsWith 12 2 52
+    ∷ plasticsWith 13 2 62
+    -- by a closed one
+    ∷ plasticsWith 1 3 528
+    ∷ plasticsWith 2 3 2130
+    ∷ plasticsWith 3 3 1610
+    ∷ plasticsWith 4 3 2010
+    ∷ plasticsWith 5 3 341
+    ∷ plasticsWith 6 3 623
+    ∷ plasticsWith 7 3 2790
+    ∷ plasticsWith 8 3 428
+    ∷ plasticsWith 9 3 814
+    ∷ plasticsWith 10 3 181
+    ∷ plasticsWith 11 3 28
+    ∷ plasticsWith 12 3 84
+    ∷ plasticsWith 13 3 69
+    ∷ plasticsWith 14 3 804
+    ∷ plasticsWith 15 3 206
+    ∷ plasticsWith 16 3 121
+    ∷ plasticsWith 17 3 469
+    ∷ plasticsWith 18 3 80
+    -- other quantities, and T at both its ends, by each process
+    ∷ record { case = caseBytes 8 6 1 1 1 7 quarter eighth three-quarters 0 0 0; water = kg 1815000 16; air = kg 605000 32; soil = nothing }
+    ∷ record { case = caseBytes 8 6 1 1 366 7 unit half thirty-second 0 0 0; water = kg 605000 11712; air = kg 605000 732; soil = nothing }
+    ∷ record { case = caseBytes 8 1 1 2 1 7 eighth three-quarters quarter 0 0 0; water = kg 23100000 32; air = kg 69300000 32; soil = nothing }
+    ∷ record { case = caseBytes 8 1 1 2 366 7 unit half thirty-second 0 0 0; water = kg 23100000 11712; air = kg 23100000 732; soil = nothing }
+    ∷ record { case = caseBytes 8 18 1 3 1 7 unit three-quarters eighth 0 0 0; water = kg 10000 1; air = kg 60000 1; soil = nothing }
+    ∷ record { case = caseBytes 8 18 1 3 366 7 quarter thirty-second half 0 0 0; water = kg 10000 366; air = kg 625 366; soil = nothing }
     ∷ []
 
 -- the case is accepted, and its equations have the values worked out

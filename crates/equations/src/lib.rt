@@ -1,15 +1,19 @@
-// Equations 1 to 7 of paper 01 in micrograms, each exact and rounded up once.
+// Equations 1 to 7 of paper 01 and 8 of request No. 2 in micrograms, each exact and rounded up once.
 // The numbers of an equation are folded into one constant k over a small d; the quantities stand in the equation's order.
 ghost use mathlib.Core.Path.{_≡_};
-ghost use Rattle.scenario.specs.declared.Case.the-variants.{Measured, Unknown, Application, Sanitary, Formulation, Hygiene, Toilets};
+ghost use mathlib.Core.List.{[], _∷_};
+ghost use Prim.Native.Nat.{_≤_};
+ghost use Rattle.scenario.specs.declared.Case.the-variants.{Measured, Unknown, Application, Sanitary, Formulation, Hygiene, Toilets, Plastics};
 ghost use Rattle.product.specs.Ratio.{roundedUp};
-ghost use Rattle.equations.specs.Equations.{toWater, toAir, toSoil, micrograms};
-ghost use Rattle.equations.specs.Ranges.{InRange};
+ghost use Rattle.equations.specs.Equations.{plastics, toWater, toAir, toSoil, micrograms};
+ghost use Rattle.equations.specs.Ranges.{Within, InRange};
 use crate::constants::application_constants;
 use crate::constants::consumption_constants;
 use crate::constants::hundredths;
 use crate::constants::measured_constants;
 use crate::constants::unknown_constants;
+use kinds::polymers::Usage;
+use kinds::polymers::usage_of;
 use product::product_up;
 use product::remainder_up;
 use product::sum_up;
@@ -151,4 +155,32 @@ pub fn toilets(
         );
     }
     remainder_up(disintegrated, &quantities, 2000000000000, 3)
+}
+
+// Q·1000·a·b/T, of one compartment.
+fn plastics_part(tonnes: u32, active: f64, part: f64, days: u32) -> u64
+    requires { ⌜ (tonnes ≤ 23100) × (1 ≤ days) × Within (active ∷ part ∷ []) (1 ∷ 1 ∷ []) ⌝ }
+    ensures { λ r. ⌜ r ≡ roundedUp (micrograms (plastics tonnes active part days)) ⌝ }
+{
+    let quantities = [active, part];
+    product_up(&quantities, tonnes as u64 * 1000000000000, days)
+}
+
+// 8. Plastics. Without a usage there is no equation.
+pub fn plastics(active: f64, air: f64, water: f64, head: Head) -> Emissions
+    requires { ⌜ InRange (Plastics active air water) head ⌝ }
+    ensures { λ r. ⌜ (r .water ≡ roundedUp (micrograms (toWater (Plastics active air water) head))) × (r .air ≡ roundedUp (micrograms (toAir (Plastics active air water) head))) × (r .soil ≡ roundedUp (micrograms (toSoil (Plastics active air water) head))) ⌝ }
+{
+    match usage_of(head.row, head.user) {
+        Usage::NoUsage => Emissions {
+            water: 0,
+            air: 0,
+            soil: 0,
+        },
+        Usage::Tonnes(tonnes) => Emissions {
+            water: plastics_part(tonnes, active, water, head.count),
+            air: plastics_part(tonnes, active, air, head.count),
+            soil: 0,
+        },
+    }
 }

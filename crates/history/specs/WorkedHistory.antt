@@ -26,6 +26,10 @@ rain = caseBytes 2 3 2 0 0 7 sixty-fourth 0 unit 0 0 0
 abbrev formulation : ℕ → ℕ → ℕ → ℕ → List ℕ
 formulation t dossier air soil = caseBytes 5 0 1 0 t dossier eighth eighth half air soil 0
 
+-- kind 8: LDPE by a process, half of it active, a quarter to air and an eighth to water
+abbrev plastics : ℕ → List ℕ
+plastics process = caseBytes 8 1 1 process 250 7 half quarter eighth 0 0 0
+
 abbrev four : ℕ → ℕ → ℕ → ℕ → List ℕ
 four s w a g = s ∷ w ∷ a ∷ g ∷ []
 
@@ -73,6 +77,12 @@ workedHistory =
     ∷ (worst 4 tells named 0 3)
     ∷ (worst 0 tells named 12 0)
     ∷ (worst 5 tells named 12 0)
+    ∷ (empty tells emptied 0 16)
+    -- kind 8: without a usage for the process, and with one; another process is another filing
+    ∷ (file (offer (plastics 1)) (four 0 0 0 0) tells filed 31 0 16)
+    ∷ (file (offer (plastics 3)) (four 132000000000 0 264000000000 0) tells filed 0 0 112)
+    ∷ (file (offer (plastics 2)) (four 5775000000000 0 11550000000000 0) tells filed 0 1 208)
+    ∷ (worst 3 tells named 0 1)
     ∷ (empty tells emptied 0 16)
     ∷ (show 0 tells shown 24 [])
     ∷ (file (offer (sanitary 7 0)) (four 76923077 0 0 0) tells filed 0 0 112)

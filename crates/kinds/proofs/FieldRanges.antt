@@ -1,9 +1,9 @@
--- Row, route, user and T in plain numbers: what passes its test is exactly what Ranges allows.
+-- Row, route, user, usage and T in plain numbers: what passes its test is exactly what Ranges allows.
 --   Passes, passes                                               what a refusal's test leaves
 --   by-table                                                     what Ranges says of a kind is what the table of kinds says, computed
---   rows-exactly, routes-exactly, users-exactly, counts-exactly  a law for each field, both ways
+--   rows-exactly, routes-exactly, users-exactly, usages-exactly, counts-exactly  a law for each field, both ways
 -- The quantities are in QuantityRanges, the whole case in Ranges.
-use mathlib.Core.Path.{_≡_, refl}
+use mathlib.Core.Path.{_≡_, refl, sym, subst}
 use mathlib.Core.Bool.{Bool, true, false, not, _&&_, _||_, cond}
 use mathlib.Core.List.{List, [], _∷_, map}
 use mathlib.Core.Logic.{_⊎_, inl, inr}
@@ -14,9 +14,10 @@ use lib.Dec.{eqb}
 use lib.Ieee.{Float}
 use lib.ListN.{length, getD}
 use borrow.Author.Tests.{not-false, eqb-true, eqb-false, eq-eqb}
-use Rattle.octets.proofs.Bools.{both}
-use Rattle.kinds.specs.Case.{rowOf, userOf, countOf, patternAt, ofSix, quantityOf, Range, _to_, within, Listing, unlisted, upTo, ownUpTo, Kind, kinds, noKind, kindAt, rowUnknown, routeNotAllowed, userNotAllowed, countNotAllowed, sumFrom}
-use Rattle.kinds.specs.Ranges.{Between, ByRow, UpTo, ZeroBytes, OwnUpTo, AtMost1, NoSum, IsKind, Allows, allows, allowsNothing, allowedBy, Route}
+use Rattle.octets.proofs.Bools.{both, allBelow, all-below}
+use Rattle.kinds.specs.Polymers.{polymers, usagesOf, usageAt, isMissing}
+use Rattle.kinds.specs.Case.{rowOf, userOf, countOf, patternAt, ofSix, quantityOf, Range, _to_, within, Listing, unlisted, upTo, ownUpTo, Kind, kinds, noKind, kindAt, rowUnknown, routeNotAllowed, userNotAllowed, usageMissing, countNotAllowed, sumFrom}
+use Rattle.kinds.specs.Ranges.{Between, ByRow, UpTo, ZeroBytes, OwnUpTo, AtMost1, NoSum, IsKind, Allows, allows, allowsNothing, allowedBy, Route, HasUsage}
 use Rattle.kinds.proofs.KindTable.{inside}
 
 -- ── tests in plain numbers
@@ -102,6 +103,35 @@ by-row row own paper t = go (eqb row 0) refl
     go true e = let z = eqb-true row 0 e in let p = refused (inside own t) in (λ h. (λ r. p .0 h, λ n. absurd (n z)), λ h. p .1 (h .0 z))
     go false e = let n = eqb-false row 0 e in let p = refused (inside paper t) in (λ h. (λ z. absurd (n z), λ r. p .0 h), λ h. p .1 (h .1 n))
 
+-- the polymers that have a usage, as a test; it agrees with the printed table at every cell, computed
+hasUsage : (row user : ℕ) → Bool
+hasUsage row user =
+    (eqb user 1 && (within (4 to 6) row || (within (8 to 11) row || eqb row 15)))
+    || ((eqb user 2 && (within (1 to 3) row || (within (5 to 6) row || within (11 to 13) row)))
+    || (eqb user 3 && within (1 to 18) row))
+
+has-usage : (row user : ℕ) → Shows (hasUsage row user) (HasUsage row user)
+unfolding hasUsage
+has-usage row user =
+    equal user 1 and (inside (4 to 6) row or inside (8 to 11) row or equal row 15)
+    or equal user 2 and (inside (1 to 3) row or inside (5 to 6) row or inside (11 to 13) row)
+    or equal user 3 and inside (1 to 18) row
+
+-- one of the two holds
+either : Bool → Bool → Bool
+either m t = cond m (not t) t
+
+by-either : (m t : Bool) → either m t ≡ true → m ≡ not t
+unfolding either
+by-either true t e = sym e
+by-either false t e = rw e
+
+cell : (row user : ℕ) → row < 19 → user < 4 → isMissing (usageAt row user) ≡ not (hasUsage row user)
+unfolding allBelow either hasUsage usageAt usagesOf polymers
+cell row user h g =
+    let agree : ℕ → ℕ → Bool = (λ r u. either (isMissing (usageAt r u)) (hasUsage r u)) in
+    by-either (isMissing (usageAt row user)) (hasUsage row user) (all-below (agree row) 4 (all-below (λ r. allBelow (agree r) 4) 19 refl row h) user g)
+
 module _ (b : List ℕ) (k : ℕ) (h : IsKind k) where
   pub rows-exactly : Passes (rowUnknown k (rowOf b)) (allowedBy k b .row)
   unfolding rowUnknown
@@ -110,6 +140,19 @@ module _ (b : List ℕ) (k : ℕ) (h : IsKind k) where
   pub users-exactly : Passes (userNotAllowed k (userOf b)) (allowedBy k b .user)
   unfolding userNotAllowed
   users-exactly = rw (by-table b k h) (refused (inside (kindAt k .users) (userOf b)))
+
+  pub usages-exactly : allowedBy k b .row → allowedBy k b .user → Passes (usageMissing k (rowOf b) (userOf b)) (k ≡ 8 → HasUsage (rowOf b) (userOf b))
+  unfolding usageMissing
+  usages-exactly r u = go (eqb k 8) refl
+    where
+      go : (z : Bool) → eqb k 8 ≡ z → Passes (z && isMissing (usageAt (rowOf b) (userOf b))) (k ≡ 8 → HasUsage (rowOf b) (userOf b))
+      go true e =
+          let eight = eqb-true k 8 e in
+          let row = subst (λ (n : ℕ). allowedBy n b .row) eight r .1 in
+          let user = subst (λ (n : ℕ). allowedBy n b .user) eight u .1 in
+          let p = refused (has-usage (rowOf b) (userOf b)) in
+          rw (cell (rowOf b) (userOf b) (omega arith) (omega arith)) (λ m z. p .0 m, λ has. p .1 (has eight))
+      go false e = (λ m z. absurd (eqb-false k 8 e z), λ has. refl)
 
   pub counts-exactly : Passes (countNotAllowed k (rowOf b) (countOf b)) (allowedBy k b .count)
   unfolding countNotAllowed

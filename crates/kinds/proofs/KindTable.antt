@@ -1,6 +1,6 @@
 -- Laws of the table of kinds: `no-kind` (what is none of them), `each-kind` (what holds of each), `tested` (one computed test of all, by their numbers),
 -- `not-summed` (of which nothing is summed). Of any table that is numbered from 1: `beyond` (what is none of its entries). Of ranges: `inside`.
--- Laws of limits are in `Limits`.
+-- Laws of limits are in `Limits`, of usages in `UsageTable`.
 use mathlib.Core.Path.{_≡_, refl}
 use mathlib.Core.Bool.{Bool, true, false, _&&_, _||_}
 use mathlib.Core.List.{List, [], _∷_}
@@ -86,6 +86,6 @@ unfolding empty
 only-empty [] e = refl
 only-empty (x ∷ xs) e = let z : _≡_ {A = ℕ} 0 1 = cc in absurd (omega arith)
 
-pub not-summed : (k : ℕ) → (k ≡ 5 → ⊥) → kindAt k .summed ≡ []
+pub not-summed : (k : ℕ) → (k ≡ 5 → ⊥) → (k ≡ 8 → ⊥) → kindAt k .summed ≡ []
 unfolding tests empty kinds
-not-summed k h = only-empty (kindAt k .summed) (rw (ne-eqb k 5 h) at (tested (λ i x. empty (x .summed) || eqb i 5) refl (λ i. refl) k))
+not-summed k h g = only-empty (kindAt k .summed) (rw (ne-eqb k 5 h, ne-eqb k 8 g) at (tested (λ i x. empty (x .summed) || (eqb i 5 || eqb i 8)) refl (λ i. refl) k))

@@ -65,7 +65,7 @@ unfolding refusalOf
 refusal-order b n = (λ (e : firstOf (refusals b) ≡ n). subst (IsFirst (refusals b)) e (first-of-is-first (refusals b)), first-is-first-of)
 
 -- the numbers in the list are the paper's, whatever the case
-pub refusal-numbers : (b : List ℕ) → map (λ (c : Condition). c .number) (refusals b) ≡ 1 ∷ 2 ∷ 3 ∷ 4 ∷ 5 ∷ 6 ∷ 7 ∷ 8 ∷ 9 ∷ 10 ∷ 11 ∷ []
+pub refusal-numbers : (b : List ℕ) → map (λ (c : Condition). c .number) (refusals b) ≡ 1 ∷ 2 ∷ 3 ∷ 4 ∷ 5 ∷ 31 ∷ 6 ∷ 7 ∷ 8 ∷ 9 ∷ 10 ∷ 11 ∷ []
 refusal-numbers b = refl
 
 pub refusal-of-length : (b : List ℕ) → (length b ≡ 64 → ⊥) → refusalOf b ≡ 1
@@ -74,4 +74,4 @@ refusal-of-length b h = rw (ne-eqb (length b) 64 h)
 
 pub numbers-accepted : (b : List ℕ) → refusalOf b ≡ 0 → anyNotNumber (patternAt b) ≡ false
 unfolding refusalOf
-numbers-accepted b e = none-holds (refusals b) refl e 7
+numbers-accepted b e = none-holds (refusals b) refl e 8

@@ -1,5 +1,5 @@
--- A case of 64 bytes: its fields, what each kind allows, and refusals 1 to 11.
--- Paper 01, 'A case, 64 bytes', 'City rows', 'Equations' (rows, T, quantities, limits) and 'From the input, in this order'.
+-- A case of 64 bytes: its fields, what each kind allows, and refusals 1 to 11, with 31 straight after 5.
+-- Paper 01, 'A case, 64 bytes', 'City rows', 'Equations' (rows, T, quantities, limits) and 'From the input, in this order'; kind 8 and 31: request No. 2.
 use mathlib.Core.Bool.{Bool, true, false, not, _&&_, _||_, cond}
 use mathlib.Core.List.{List, [], _∷_, _++_, map}
 use Prim.Native.Nat.{ℕ, _+_, _*_}
@@ -9,6 +9,7 @@ use lib.ListN.{length, getD}
 use Rattle.octets.specs.Bytes.{numberAt}
 use Rattle.binary64.specs.Pattern.{isUnsignedFinite}
 use Rattle.binary64.specs.Quantity.{whole, one}
+use Rattle.kinds.specs.Polymers.{usageAt, isMissing}
 use Rattle.kinds.specs.Refusal.{Condition, _when_, firstOf}
 
 -- ── the fields
@@ -90,7 +91,7 @@ pub record Kind : Type 0 where
 abbrev pub kind : Range → Range → Range → Range → List Listing → List ℕ → Kind
 kind r u t t′ q s = record { rows = r; users = u; ownCount = t; rowCount = t′; quantities = q; summed = s }
 
--- The seven kinds. Kind 5 has no row but 0: T with its other rows is never looked at.
+-- The eight kinds. Kind 5 has no row but 0, and kind 8 no row 0: T with a row that a kind has not is never looked at.
 unfoldable pub kinds : List Kind
 kinds =
     -- 1. city, leaching measured
@@ -107,6 +108,8 @@ kinds =
     ∷ kind (0 to 5) (0 to 0) (0 to 0) (0 to 0) (fraction ∷ fraction ∷ unlisted ∷ ownUpTo 10000 ∷ ownUpTo 100 ∷ ownUpTo 1 ∷ []) []
     -- 7. chemical toilets
     ∷ kind (0 to 1) (0 to 0) (1 to 100) (0 to 0) (fraction ∷ fraction ∷ upTo 5 ∷ fraction ∷ fraction ∷ unlisted ∷ []) []
+    -- 8. plastics, by polymer and process
+    ∷ kind (1 to 18) (1 to 3) (1 to 366) (1 to 366) (fraction ∷ fraction ∷ fraction ∷ unlisted ∷ unlisted ∷ unlisted ∷ []) (1 ∷ 2 ∷ [])
     ∷ []
 
 -- a kind that is not there allows nothing
@@ -142,7 +145,7 @@ unfoldable pub notSixtyFour : List ℕ → Bool
 notSixtyFour b = not (eqb (length b) 64)
 
 unfoldable pub kindUnknown : ℕ → Bool
-kindUnknown k = not (within (1 to 7) k)
+kindUnknown k = not (within (1 to 8) k)
 
 unfoldable pub rowUnknown : ℕ → ℕ → Bool
 rowUnknown k row = not (within (kindAt k .rows) row)
@@ -153,6 +156,10 @@ routeNotAllowed k row route = not (eqb route 1 || (eqb route 2 && (within (1 to 
 
 unfoldable pub userNotAllowed : ℕ → ℕ → Bool
 userNotAllowed k user = not (within (kindAt k .users) user)
+
+-- refusal 31, of kind 8: "A polymer without usage for that process"
+unfoldable pub usageMissing : ℕ → ℕ → ℕ → Bool
+usageMissing k row user = eqb k 8 && isMissing (usageAt row user)
 
 unfoldable pub countNotAllowed : ℕ → ℕ → ℕ → Bool
 countNotAllowed k row t = not (within (countsAt k row) t)
@@ -198,22 +205,23 @@ unfolding sumFrom
 sumWithin [] = true
 sumWithin (x ∷ xs) = le (sumFrom x xs) (ofBits binary64 0x3ff0000000000000)
 
--- what kind k sums of the six. Kind 5: "The sum (c + d) + e, both additions rounded in binary64, is at most 1"
+-- what kind k sums of the six. Kind 5: "The sum (c + d) + e, both additions rounded in binary64, is at most 1"; kind 8: "The sum b + c, rounded once"
 unfoldable pub summedOf : ℕ → List Float → List Float
 summedOf k xs = map (λ (i : ℕ). getD xs i (quantityOf 0)) (kindAt k .summed)
 
 unfoldable pub sumOver : ℕ → (ℕ → ℕ) → Bool
 sumOver k p = not (sumWithin (summedOf k (ofSix (λ i. quantityOf (p i)))))
 
--- ── refusals 1 to 11, in the paper's order
+-- ── refusals 1 to 11, in the paper's order, 31 straight after 5
 
--- 2 to 7, of what stands before the quantities
+-- 2 to 7 and 31, of what stands before the quantities
 abbrev pub headRefusals : ℕ → ℕ → ℕ → ℕ → ℕ → ℕ → List Condition
 headRefusals k row route user t dossier =
     (2 when kindUnknown k)
     ∷ (3 when rowUnknown k row)
     ∷ (4 when routeNotAllowed k row route)
     ∷ (5 when userNotAllowed k user)
+    ∷ (31 when usageMissing k row user)
     ∷ (6 when countNotAllowed k row t)
     ∷ (7 when dossierZero dossier)
     ∷ []

@@ -1,4 +1,4 @@
--- The edges that paper 01 prints, and each refusal with its number, as whole cases with their refusals, 0 for none.
+-- The edges that paper 01 prints and those of request No. 2's sum, and each refusal with its number, as whole cases with their refusals, 0 for none.
 -- Paper 01, 'Pencil cases': "Edges: life 30 is 6, 31 passes; row 2 route 2 is 4, row 3 route 2 passes", and P8, P9.
 use mathlib.Core.List.{List, [], _∷_}
 use Prim.Native.Nat.{ℕ, _+_}
@@ -24,6 +24,10 @@ withRoute row route = caseBytes 2 row route 0 0 7 unit 0 unit 0 0 0
 abbrev pub withFractions : ℕ → ℕ → List ℕ
 withFractions c e = caseBytes 5 0 1 0 250 7 sixteen eighth c quarter e 0
 
+-- kind 8, polystyrene, which has a usage for each process, by users 1 to 3, with a, b and c
+abbrev pub withParts : ℕ → ℕ → ℕ → ℕ → List ℕ
+withParts user a b c = caseBytes 8 6 1 user 250 7 a b c 0 0 0
+
 abbrev pub edges : List Edge
 edges =
     (withLife 30 gives 6)
@@ -34,6 +38,14 @@ edges =
     ∷ (withFractions three-quarters two^-52 gives 11)
     ∷ (withFractions three-quarters two^-53 gives 0)
     ∷ (withFractions three-quarters two^-54 gives 0)
+    -- kind 8: b + c is 1; just above it, a tie that goes to 1, either way round; and beyond the tie
+    ∷ (withParts 1 unit three-quarters quarter gives 0)
+    ∷ (withParts 2 unit unit two^-53 gives 0)
+    ∷ (withParts 3 unit two^-53 unit gives 0)
+    ∷ (withParts 2 unit unit (two^-53 + 1) gives 11)
+    ∷ (withParts 3 unit (two^-53 + 1) unit gives 11)
+    -- a is no part of the sum
+    ∷ (withParts 1 unit half half gives 0)
     ∷ []
 
 -- the pattern of the least quantity above 0
@@ -58,7 +70,7 @@ told =
     ([] gives 1)
     ∷ (0 ∷ caseBytes 5 0 1 0 250 7 sixteen eighth half quarter eighth 0 gives 1)
     ∷ (caseBytes 0 0 1 0 250 7 sixteen eighth half quarter eighth 0 gives 2)
-    ∷ (caseBytes 8 0 1 0 250 7 sixteen eighth half quarter eighth 0 gives 2)
+    ∷ (caseBytes 9 0 1 0 250 7 sixteen eighth half quarter eighth 0 gives 2)
     ∷ (caseBytes 5 1 1 0 250 7 sixteen eighth half quarter eighth 0 gives 3)
     ∷ (caseBytes 5 0 0 0 250 7 sixteen eighth half quarter eighth 0 gives 4)
     ∷ (caseBytes 5 0 2 0 250 7 sixteen eighth half quarter eighth 0 gives 4)
@@ -76,7 +88,7 @@ told =
     ∷ (caseBytes 5 0 1 0 250 7 sixteen eighth half quarter half 0 gives 11)
     -- two: 1 and 2, 2 and 3, and so on
     ∷ (8 ∷ caseBytes 5 0 1 0 250 7 sixteen eighth half quarter eighth 0 gives 1)
-    ∷ (caseBytes 8 8 1 0 250 7 sixteen eighth half quarter eighth 0 gives 2)
+    ∷ (caseBytes 9 8 1 0 250 7 sixteen eighth half quarter eighth 0 gives 2)
     ∷ (caseBytes 5 1 2 0 250 7 sixteen eighth half quarter eighth 0 gives 3)
     ∷ (caseBytes 5 0 2 1 250 7 sixteen eighth half quarter eighth 0 gives 4)
     ∷ (caseBytes 5 0 1 1 0 7 sixteen eighth half quarter eighth 0 gives 5)
@@ -141,4 +153,25 @@ told =
     ∷ (caseBytes 7 1 1 0 0 7 half quarter five three-quarters eighth least gives 9)
     ∷ (caseBytes 7 1 1 0 0 7 half quarter (five + 1) three-quarters eighth 0 gives 10)
     ∷ (caseBytes 7 1 1 0 0 7 half quarter (five + 1) three-quarters eighth least gives 9)
+    -- of kind 8, which has no row 0: LDPE has no usage by an open process, and epoxy resins none by a partially open one
+    ∷ (caseBytes 8 0 1 2 250 7 half quarter eighth 0 0 0 gives 3)
+    ∷ (caseBytes 8 19 1 2 250 7 half quarter eighth 0 0 0 gives 3)
+    ∷ (caseBytes 8 1 2 2 250 7 half quarter eighth 0 0 0 gives 4)
+    ∷ (caseBytes 8 1 1 0 250 7 half quarter eighth 0 0 0 gives 5)
+    ∷ (caseBytes 8 1 1 4 250 7 half quarter eighth 0 0 0 gives 5)
+    ∷ (caseBytes 8 1 1 1 250 7 half quarter eighth 0 0 0 gives 31)
+    ∷ (caseBytes 8 18 1 2 250 7 half quarter eighth 0 0 0 gives 31)
+    ∷ (caseBytes 8 1 1 2 0 7 half quarter eighth 0 0 0 gives 6)
+    ∷ (caseBytes 8 1 1 2 367 7 half quarter eighth 0 0 0 gives 6)
+    ∷ (caseBytes 8 1 1 2 250 0 half quarter eighth 0 0 0 gives 7)
+    ∷ (caseBytes 8 1 1 2 250 7 minus-zero quarter eighth 0 0 0 gives 8)
+    ∷ (caseBytes 8 1 1 2 250 7 half quarter eighth least 0 0 gives 9)
+    ∷ (caseBytes 8 1 1 2 250 7 (unit + 1) quarter eighth 0 0 0 gives 10)
+    ∷ (caseBytes 8 1 1 2 250 7 half three-quarters half 0 0 0 gives 11)
+    -- two, and all from 31 on: 5 and 31, 31 and 6, 9 and 10, 10 and 11
+    ∷ (caseBytes 8 7 1 4 250 7 half quarter eighth 0 0 0 gives 5)
+    ∷ (caseBytes 8 1 1 1 0 7 half quarter eighth 0 0 0 gives 31)
+    ∷ (caseBytes 8 1 1 1 0 0 minus-zero (unit + 1) unit least 0 0 gives 31)
+    ∷ (caseBytes 8 1 1 2 250 7 (unit + 1) quarter eighth least 0 0 gives 9)
+    ∷ (caseBytes 8 1 1 2 250 7 half (unit + 1) eighth 0 0 0 gives 10)
     ∷ []

@@ -1,6 +1,6 @@
--- The ranges of a case in plain numbers: its fields beside the numbers of paper 01, kind by kind, in the order of refusals 1 to 11.
+-- The ranges of a case in plain numbers: its fields beside the numbers of paper 01 and, for kind 8, request No. 2, kind by kind, in the order of the refusals.
 -- A case is accepted exactly when it is within them (`accepted-exactly`). Of Case only the fields and what a quantity is are used, not the table `kinds` and no test,
--- so that a number which is wrong there and in the program alike is refused.
+-- and nothing of Polymers, so that a number which is wrong there and in the program alike is refused.
 -- k is the kind, t the count T, and a to f are the patterns of the quantities.
 use mathlib.Core.Path.{_≡_}
 use mathlib.Core.Bool.{true}
@@ -52,7 +52,7 @@ NoSum = Unit {0}
 -- ── what each kind allows
 
 abbrev pub IsKind : ℕ → Type 0
-IsKind k = Between 1 7 k
+IsKind k = Between 1 8 k
 
 -- row, user, T, the quantities, and the sum, if there is one: what refusals 3, 5, 6, 9 with 10, and 11 leave
 pub record Allows : Type 1 where
@@ -89,6 +89,9 @@ allowed row user t a b c d e f =
     -- 7. chemical toilets
     ∷ allows (Between 0 1 row) (Between 0 0 user) (ByRow row (Between 1 100 t) (Between 0 0 t))
     (UpTo 1 a × UpTo 1 b × UpTo 5 c × UpTo 1 d × UpTo 1 e × ZeroBytes f) NoSum
+    -- 8. plastics: "The sum b + c, rounded once in binary64, falls under 11 as kind 5's does."
+    ∷ allows (Between 1 18 row) (Between 1 3 user) (ByRow row (Between 1 366 t) (Between 1 366 t))
+    (UpTo 1 a × UpTo 1 b × UpTo 1 c × ZeroBytes d × ZeroBytes e × ZeroBytes f) (AtMost1 (plus (quantityOf b) (quantityOf c)))
     ∷ []
 
 -- what is no kind allows nothing
@@ -104,6 +107,16 @@ allowedBy k b =
 abbrev pub Route : (k row route : ℕ) → Type 0
 Route k row route = (route ≡ 1) ⊎ ((route ≡ 2) × (Between 1 3 k × ((row ≡ 0) ⊎ Between 3 7 row)))
 
+-- The polymers that have a usage, process by process: kind 8 allows no other.
+abbrev pub HasUsage : (row user : ℕ) → Type 0
+HasUsage row user =
+    -- open
+    ((user ≡ 1) × (Between 4 6 row ⊎ (Between 8 11 row ⊎ (row ≡ 15))))
+    -- partially open
+    ⊎ (((user ≡ 2) × (Between 1 3 row ⊎ (Between 5 6 row ⊎ Between 11 13 row)))
+    -- closed
+    ⊎ ((user ≡ 3) × Between 1 18 row))
+
 -- ── a case
 
 pub record WithinRanges (b : List ℕ) : Type 0 where
@@ -112,6 +125,7 @@ pub record WithinRanges (b : List ℕ) : Type 0 where
   pub row : allowedBy (kindOf b) b .row
   pub route : Route (kindOf b) (rowOf b) (routeOf b)
   pub user : allowedBy (kindOf b) b .user
+  pub usage : kindOf b ≡ 8 → HasUsage (rowOf b) (userOf b)
   pub count : allowedBy (kindOf b) b .count
   pub dossier : dossierOf b ≡ 0 → ⊥
   pub numbers : (i : ℕ) → i < 6 → Number (patternAt b i)

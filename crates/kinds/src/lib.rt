@@ -1,15 +1,19 @@
-// What each kind allows, as two tables: the bounds of its fields, and the limits of its quantities; and the tests of refusals 2 to 6.
+// What each kind allows, as two tables: the bounds of its fields, and the limits of its quantities; and the tests of refusals 2 to 6 and 31.
 // specs/ says what each kind allows and when each refusal holds.
 ghost use mathlib.Core.Path.{_≡_};
 ghost use mathlib.Core.Bool.{not};
 ghost use lib.Dec.{eqb};
-ghost use Rattle.kinds.specs.Case.{within, _to_, kindAt, kindUnknown, routeNotAllowed, rowUnknown, userNotAllowed, countNotAllowed};
+ghost use Rattle.kinds.specs.Case.{within, _to_, kindAt, kindUnknown, routeNotAllowed, rowUnknown, userNotAllowed, usageMissing, countNotAllowed};
 ghost use Rattle.kinds.specs.Patterns.{boundsOf, limitPatterns, limitsOf};
+use polymers::Usage;
+use polymers::usage_of;
+
+pub mod polymers;
 
 pub fn kind_unknown(kind: u8) -> bool
     ensures { λ r. ⌜ r ≡ kindUnknown kind ⌝ }
 {
-    !((1 <= kind) & (kind <= 7))
+    !((1 <= kind) & (kind <= 8))
 }
 
 // Route 2, the rain sewer, is for the uses outdoors of a city.
@@ -32,6 +36,7 @@ fn bounds_of(kind: u8) -> [u32; 8]
         5 => [0, 0, 0, 0, 1, 366, 0, 0],
         6 => [0, 5, 0, 0, 0, 0, 0, 0],
         7 => [0, 1, 0, 0, 1, 100, 0, 0],
+        8 => [1, 18, 1, 3, 1, 366, 1, 366],
         _ => [1, 0, 1, 0, 1, 0, 1, 0],
     }
 }
@@ -54,6 +59,19 @@ pub fn user_not_allowed(kind: u8, user: u8) -> bool
 {
     let bounds = bounds_of(kind);
     outside(bounds[2], bounds[3], user as u32)
+}
+
+// Kind 8: the polymer has no usage for the process.
+pub fn usage_missing(kind: u8, row: u8, user: u8) -> bool
+    ensures { λ r. ⌜ r ≡ usageMissing kind row user ⌝ }
+{
+    if kind != 8 {
+        return false;
+    }
+    match usage_of(row, user) {
+        Usage::NoUsage => true,
+        Usage::Tonnes(_) => false,
+    }
 }
 
 pub fn count_not_allowed(kind: u8, row: u8, t: u32) -> bool
@@ -115,6 +133,7 @@ fn limits_at(kind: u8) -> [[u64; 6]; 2]
             [TO_1, TO_1, TO_5, TO_1, TO_1, 0],
             [TO_1, TO_1, TO_5, TO_1, TO_1, 0],
         ],
+        8 => [[TO_1, TO_1, TO_1, 0, 0, 0], [TO_1, TO_1, TO_1, 0, 0, 0]],
         _ => [[0, 0, 0, 0, 0, 0], [0, 0, 0, 0, 0, 0]],
     }
 }

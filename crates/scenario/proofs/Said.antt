@@ -25,7 +25,8 @@ accepted-says b none =
     then (λ q. (refl, rw (q .3, q .4, q .5)))
     then (λ q. (refl, rw (q .5)))
     then (λ q. (refl, rw (q .2)))
-    then (λ q. (refl, rw (q .5))))
+    then (λ q. (refl, rw (q .5)))
+    then (λ q. (refl, rw (q .3, q .4, q .5))))
     (kindOf b) (w .kind) (w .quantities)
 
 pub of-decoded : (b : List ℕ) → ofDecoded (decoded b) ≡ said b

@@ -8,7 +8,7 @@ use lib.Ieee.{Float}
 use Rattle.kinds.specs.Case.{kindOf, rowOf, routeOf, userOf, countOf, dossierOf, patternAt, ofSix, quantityOf, refusalOf}
 use Rattle.scenario.specs.declared.Site.{Site}
 use Rattle.scenario.specs.declared.Case.{Case}
-use Rattle.scenario.specs.declared.Case.the-variants.{Measured, Unknown, Application, Sanitary, Formulation, Hygiene, Toilets}
+use Rattle.scenario.specs.declared.Case.the-variants.{Measured, Unknown, Application, Sanitary, Formulation, Hygiene, Toilets, Plastics}
 use Rattle.scenario.specs.declared.Head.{Head}
 use Rattle.scenario.specs.declared.Decoded.{Decoded}
 use Rattle.scenario.specs.declared.Decoded.the-variants.{Accepted, Refused}
@@ -26,7 +26,8 @@ caseWith k a b c d e f =
     (cond (eqb k 4) (Sanitary a b c)
     (cond (eqb k 5) (Formulation a b c d e)
     (cond (eqb k 6) (Hygiene a b d e f)
-    (Toilets a b c d e))))))
+    (cond (eqb k 7) (Toilets a b c d e)
+    (Plastics a b c)))))))
 
 -- of the patterns p of a to f
 unfoldable pub caseOfPatterns : ℕ → (ℕ → ℕ) → Case
@@ -52,6 +53,7 @@ kindIn (Sanitary a b c) = 4
 kindIn (Formulation a b c d e) = 5
 kindIn (Hygiene a b d e f) = 6
 kindIn (Toilets a b c d e) = 7
+kindIn (Plastics a b c) = 8
 
 -- what stands for a quantity that the kind does not carry
 abbrev pub nought : Float
@@ -66,6 +68,7 @@ quantitiesIn (Sanitary a b c) = a ∷ b ∷ c ∷ nought ∷ nought ∷ nought �
 quantitiesIn (Formulation a b c d e) = a ∷ b ∷ c ∷ d ∷ e ∷ nought ∷ []
 quantitiesIn (Hygiene a b d e f) = a ∷ b ∷ nought ∷ d ∷ e ∷ f ∷ []
 quantitiesIn (Toilets a b c d e) = a ∷ b ∷ c ∷ d ∷ e ∷ nought ∷ []
+quantitiesIn (Plastics a b c) = a ∷ b ∷ c ∷ nought ∷ nought ∷ nought ∷ []
 
 -- The refusal, 0 where the case is accepted; kind, row, route, user, T and dossier number; the quantities a to f. Beside a refusal there are no fields and no quantities.
 pub record Said : Type 0 where

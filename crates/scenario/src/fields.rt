@@ -1,4 +1,4 @@
-// What stands before the quantities of a case, and refusals 2 to 7.
+// What stands before the quantities of a case, and refusals 2 to 7 and 31.
 ghost use mathlib.Core.Path.{_≡_};
 ghost use lib.ListN.{length};
 ghost use Rattle.kinds.specs.Refusal.{firstOf};
@@ -9,6 +9,7 @@ use kinds::count_not_allowed;
 use kinds::kind_unknown;
 use kinds::route_not_allowed;
 use kinds::row_unknown;
+use kinds::usage_missing;
 use kinds::user_not_allowed;
 
 pub fn head_at(case: &[u8]) -> Head
@@ -24,7 +25,7 @@ pub fn head_at(case: &[u8]) -> Head
     }
 }
 
-// The first of refusals 2 to 7 that holds, 0 for none.
+// The first of refusals 2 to 7 and 31 that holds, 0 for none: 31 straight after 5.
 pub fn head_refusal(kind: u8, head: Head) -> u32
     ensures { λ r. ⌜ r ≡ firstOf (headRefusals kind (head .row) (head .route) (head .user) (head .count) (head .dossier)) ⌝ }
 {
@@ -40,6 +41,9 @@ pub fn head_refusal(kind: u8, head: Head) -> u32
     }
     if user_not_allowed(kind, head.user) {
         return 5;
+    }
+    if usage_missing(kind, row, head.user) {
+        return 31;
     }
     if count_not_allowed(kind, row, head.count) {
         return 6;

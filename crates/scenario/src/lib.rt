@@ -1,4 +1,4 @@
-// A case of 64 bytes: decoded to an enum over kinds, or refused by the first of refusals 1 to 11 that holds.
+// A case of 64 bytes: decoded to an enum over kinds, or refused by the first of refusals 1 to 11 and 31 that holds.
 // specs/ says what a case says; what each kind allows and when each refusal holds is in crate kinds.
 ghost use mathlib.Core.Path.{_≡_};
 ghost use mathlib.Core.Bool.{false};
@@ -19,7 +19,7 @@ pub struct Site {
     pub density: f64,
 }
 
-// Kinds 1 to 7, each with its own quantities.
+// Kinds 1 to 8, each with its own quantities.
 pub enum Case {
     // A city, by measured leaching in kg/m2: early, in 30 days, and late, after them; and the share of the market.
     Measured {
@@ -68,6 +68,12 @@ pub enum Case {
         density: f64,
         disintegrated: f64,
         to_plant: f64,
+    },
+    // Plastics makers by what they use on site: the active part, and the parts to air and to water.
+    Plastics {
+        active: f64,
+        to_air: f64,
+        to_water: f64,
     },
 }
 
@@ -126,12 +132,17 @@ fn case_with(kind: u8, a: f64, b: f64, c: f64, d: f64, e: f64, f: f64) -> Case
             uses: e,
             share: f,
         },
-        _ => Case::Toilets {
+        7 => Case::Toilets {
             dose: a,
             active: b,
             density: c,
             disintegrated: d,
             to_plant: e,
+        },
+        _ => Case::Plastics {
+            active: a,
+            to_air: b,
+            to_water: c,
         },
     }
 }
@@ -152,7 +163,7 @@ fn case_of(kind: u8, p: &[u64; 6]) -> Case
     )
 }
 
-// The first of refusals 2 to 11 that holds, 0 for none.
+// The first of refusals 2 to 11 and 31 that holds, 0 for none.
 fn refusal_of(kind: u8, head: Head, p: &[u64; 6]) -> u32
     ensures { λ r. ⌜ r ≡ firstOf (headRefusals kind (head .row) (head .route) (head .user) (head .count) (head .dossier) ++ quantityRefusals kind (head .row) (at (now (p .entry)))) ⌝ }
 {

@@ -88,6 +88,7 @@ fn sum_over(kind: u8, p: &[u64; 6]) -> bool
 {
     match kind {
         5 => over_one((quantity_at(p, 2) + quantity_at(p, 3)) + quantity_at(p, 4)),
+        8 => over_one(quantity_at(p, 1) + quantity_at(p, 2)),
         _ => false,
     }
 }

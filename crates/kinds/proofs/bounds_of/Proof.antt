@@ -17,4 +17,5 @@ bounds-of-spec =
     (λ c. rw (c .match .keys5))
     (λ c. rw (c .match .keys6))
     (λ c. rw (c .match .keys7))
+    (λ c. rw (c .match .keys8))
     (λ c. rw (no-kind _ (c .match .rest))))

@@ -18,4 +18,5 @@ limits-at-spec =
     (λ c. rw (c .match .keys5))
     (λ c. rw (c .match .keys6))
     (λ c. rw (c .match .keys7))
+    (λ c. rw (c .match .keys8))
     (λ c. rw (no-kind _ (c .match .rest))))

@@ -1,4 +1,4 @@
--- By kind; the last arm is kind 7.
+-- By kind; the last arm is kind 8.
 use borrow.Author.Tests.{ne-eqb}
 use Rattle.scenario.specs.Decoding.{caseWith}
 use Rattle.scenario.proofs.case_with.Statement.{statement}
@@ -15,6 +15,7 @@ case-with-spec =
     (λ c. rw (c .match .keys4))
     (λ c. rw (c .match .keys5))
     (λ c. rw (c .match .keys6))
+    (λ c. rw (c .match .keys7))
     (λ c.
     let r = c .match .rest in
-    rw (ne-eqb _ _ (r .0 .0 .0 .0 .0 .1), ne-eqb _ _ (r .0 .0 .0 .0 .1), ne-eqb _ _ (r .0 .0 .0 .1), ne-eqb _ _ (r .0 .0 .1), ne-eqb _ _ (r .0 .1), ne-eqb _ _ (r .1))))
+    rw (ne-eqb _ _ (r .0 .0 .0 .0 .0 .0 .1), ne-eqb _ _ (r .0 .0 .0 .0 .0 .1), ne-eqb _ _ (r .0 .0 .0 .0 .1), ne-eqb _ _ (r .0 .0 .0 .1), ne-eqb _ _ (r .0 .0 .1), ne-eqb _ _ (r .0 .1), ne-eqb _ _ (r .1))))

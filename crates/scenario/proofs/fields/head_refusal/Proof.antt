@@ -31,7 +31,10 @@ past4 : (c : tie.Else4) → Past 4 (c .before .before .before .before .before .b
 past4 c n r = past3 (c .before .before) n (later (sym (c .before .user-not-allowed .ensures) ∙ c .if4 .left) r)
 
 past5 : (c : tie.Else5) → Past 5 (c .before .before .before .before .before .before .before .before .before .before)
-past5 c n r = past4 (c .before .before) n (later (sym (c .before .count-not-allowed .ensures) ∙ c .if5 .left) r)
+past5 c n r = past4 (c .before .before) n (later (sym (c .before .usage-missing .ensures) ∙ c .if5 .left) r)
+
+past6 : (c : tie.Else6) → Past 6 (c .before .before .before .before .before .before .before .before .before .before .before .before)
+past6 c n r = past5 (c .before .before) n (later (sym (c .before .count-not-allowed .ensures) ∙ c .if6 .left) r)
 
 pub head-refusal-spec : {M : Type 1} → statement M
 head-refusal-spec =
@@ -46,6 +49,8 @@ head-refusal-spec =
     (λ c κs. search needs)
     (λ c. sym (first-is-first-of (past3 (c .before .before) 5 (here (sym (c .before .user-not-allowed .ensures) ∙ c .if4 .taken)))))
     (λ c κs. search needs)
-    (λ c. sym (first-is-first-of (past4 (c .before .before) 6 (here (sym (c .before .count-not-allowed .ensures) ∙ c .if5 .taken)))))
-    (λ c. sym (first-is-first-of (past5 (c .before .before) 7 (here (eq-eqb _ _ (c .if6 .taken))))))
-    (λ c. sym (first-is-first-of (past5 (c .before .before) 0 (later (ne-eqb _ _ (c .if6 .left)) none)))))
+    (λ c. sym (first-is-first-of (past4 (c .before .before) 31 (here (sym (c .before .usage-missing .ensures) ∙ c .if5 .taken)))))
+    (λ c κs. search needs)
+    (λ c. sym (first-is-first-of (past5 (c .before .before) 6 (here (sym (c .before .count-not-allowed .ensures) ∙ c .if6 .taken)))))
+    (λ c. sym (first-is-first-of (past6 (c .before .before) 7 (here (eq-eqb _ _ (c .if7 .taken))))))
+    (λ c. sym (first-is-first-of (past6 (c .before .before) 0 (later (ne-eqb _ _ (c .if7 .left)) none)))))

@@ -14,7 +14,13 @@ sum-over-spec =
     (λ c κs. search needs)
     (λ c κs. search needs)
     (λ c κs. search needs)
+    (λ c κs. search needs)
+    (λ c κs. search needs)
+    (λ c κs. search needs)
     (λ c.
     let q = c .before in
     rw (c .over-one .ensures, q .quantity-at3 .ensures, q .before .quantity-at2 .ensures, q .before .before .quantity-at .ensures, q .before .before .before .match .keys1))
-    (λ c. rw (not-summed _ (c .match .rest .1))))
+    (λ c.
+    let q = c .before in
+    rw (c .over-one2 .ensures, q .quantity-at5 .ensures, q .before .quantity-at4 .ensures, q .before .before .match .keys2))
+    (λ c. rw (not-summed _ (c .match .rest .0 .1) (c .match .rest .1))))

@@ -1,0 +1,42 @@
+-- Laws of the table of usages: `no-polymer`, `no-process` (what is none of its rows, none of its columns); `usage-small`. What holds of every cell is one
+-- computed test over the whole table.
+-- Which of its cells hold a usage, in plain numbers, is in `FieldRanges`.
+use mathlib.Core.Path.{_≡_, refl}
+use mathlib.Core.Bool.{Bool, true}
+use mathlib.Core.List.{List, _∷_}
+use Prim.Native.Nat.{ℕ, _≤_}
+use lib.Dec.{leb, eqb}
+use lib.ListN.{length}
+use borrow.Author.Tests.{leb-true, eqb-true}
+use Rattle.octets.proofs.Bools.{every, every-at}
+use Rattle.kinds.specs.Polymers.{polymers, noPolymer, usagesOf, usageAt}
+use Rattle.kinds.specs.declared.polymers.Usage.{Usage}
+use Rattle.kinds.specs.declared.polymers.Usage.the-variants.{NoUsage, Tonnes}
+use Rattle.kinds.proofs.KindTable.{OtherThan, beyond}
+
+pub no-polymer : (row : ℕ) → OtherThan (length polymers) row → usagesOf row ≡ noPolymer
+unfolding usagesOf
+no-polymer = beyond noPolymer polymers
+
+processes : (row : ℕ) → length (usagesOf row) ≡ 3
+unfolding every usagesOf polymers
+processes row = eqb-true (length (usagesOf row)) 3 (every-at (λ (l : List Usage). eqb (length l) 3) (noPolymer ∷ polymers) noPolymer refl refl row)
+
+pub no-process : (row user : ℕ) → OtherThan 3 user → usageAt row user ≡ NoUsage
+unfolding usageAt
+no-process row user o = beyond NoUsage (usagesOf row) user (rw (processes row) o)
+
+abbrev pub mostUsed : ℕ
+mostUsed = 23100
+
+small : Usage → Bool
+small NoUsage = true
+small (Tonnes q) = leb q mostUsed
+
+each-small : (row user : ℕ) → small (usageAt row user) ≡ true
+unfolding every small usageAt usagesOf polymers
+each-small row user = every-at small (NoUsage ∷ usagesOf row) NoUsage (every-at (every small) (noPolymer ∷ polymers) noPolymer refl refl row) refl user
+
+pub usage-small : (row user q : ℕ) → usageAt row user ≡ Tonnes q → q ≤ mostUsed
+unfolding small
+usage-small row user q e = leb-true q mostUsed (rw e at (each-small row user))
