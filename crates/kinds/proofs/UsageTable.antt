@@ -1,15 +1,17 @@
 -- Laws of the table of usages: `no-polymer`, `no-process` (what is none of its rows, none of its columns); `usage-small`. What holds of every cell is one
 -- computed test over the whole table.
+-- `table-whole`: what `usage_of` gives by its contract for the 18 polymers and three processes is the printed table, all 54 cells. `column-sums`: how many
+-- usages each process has, and their tonnes, by pencil, so that a cell which is wrong in table and program alike is refused.
 -- Which of its cells hold a usage, in plain numbers, is in `FieldRanges`.
 use mathlib.Core.Path.{_≡_, refl}
 use mathlib.Core.Bool.{Bool, true}
-use mathlib.Core.List.{List, _∷_}
+use mathlib.Core.List.{List, [], _∷_, map}
 use Prim.Native.Nat.{ℕ, _≤_}
 use lib.Dec.{leb, eqb}
 use lib.ListN.{length}
 use borrow.Author.Tests.{leb-true, eqb-true}
 use Rattle.octets.proofs.Bools.{every, every-at}
-use Rattle.kinds.specs.Polymers.{polymers, noPolymer, usagesOf, usageAt}
+use Rattle.kinds.specs.Polymers.{polymers, noPolymer, usagesOf, usageAt, rows, usages, tonnes}
 use Rattle.kinds.specs.declared.polymers.Usage.{Usage}
 use Rattle.kinds.specs.declared.polymers.Usage.the-variants.{NoUsage, Tonnes}
 use Rattle.kinds.proofs.KindTable.{OtherThan, beyond}
@@ -40,3 +42,18 @@ each-small row user = every-at small (NoUsage ∷ usagesOf row) NoUsage (every-a
 pub usage-small : (row user q : ℕ) → usageAt row user ≡ Tonnes q → q ≤ mostUsed
 unfolding small
 usage-small row user q e = leb-true q mostUsed (rw e at (each-small row user))
+
+-- ── the table as a whole
+
+pub table-whole : map (λ (row : ℕ). usageAt row 1 ∷ usageAt row 2 ∷ usageAt row 3 ∷ []) rows ≡ polymers
+unfolding usageAt usagesOf polymers
+table-whole = refl
+
+abbrev column : ℕ → List Usage
+column user = map (λ (row : ℕ). usageAt row user) rows
+
+-- open, partially open, closed: 34 usages
+pub column-sums : (map (λ (user : ℕ). usages (column user)) (1 ∷ 2 ∷ 3 ∷ []) ≡ 8 ∷ 8 ∷ 18 ∷ [])
+    × (map (λ (user : ℕ). tonnes (column user)) (1 ∷ 2 ∷ 3 ∷ []) ≡ 3260 ∷ 38750 ∷ 13316 ∷ [])
+unfolding usageAt usagesOf polymers
+column-sums = (refl, refl)

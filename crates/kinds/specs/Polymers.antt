@@ -3,7 +3,7 @@
 -- docs/DEFAULTS.md has the quotes.
 use mathlib.Core.Bool.{Bool, true, false}
 use mathlib.Core.List.{List, [], _∷_}
-use Prim.Native.Nat.{ℕ}
+use Prim.Native.Nat.{ℕ, _+_}
 use lib.ListN.{getD}
 use Rattle.kinds.specs.declared.polymers.Usage.{Usage}
 use Rattle.kinds.specs.declared.polymers.Usage.the-variants.{NoUsage, Tonnes}
@@ -64,3 +64,20 @@ usageAt row user = getD (NoUsage ∷ usagesOf row) user NoUsage
 abbrev pub isMissing : Usage → Bool
 isMissing NoUsage = true
 isMissing (Tonnes q) = false
+
+-- ── the table as a whole
+
+-- the rows of kind 8
+abbrev pub rows : List ℕ
+rows = 1 ∷ 2 ∷ 3 ∷ 4 ∷ 5 ∷ 6 ∷ 7 ∷ 8 ∷ 9 ∷ 10 ∷ 11 ∷ 12 ∷ 13 ∷ 14 ∷ 15 ∷ 16 ∷ 17 ∷ 18 ∷ []
+
+-- of some cells: how many hold a usage, and the tonnes of all
+abbrev pub usages : List Usage → ℕ
+usages [] = 0
+usages (NoUsage ∷ us) = usages us
+usages (Tonnes q ∷ us) = 1 + usages us
+
+abbrev pub tonnes : List Usage → ℕ
+tonnes [] = 0
+tonnes (NoUsage ∷ us) = tonnes us
+tonnes (Tonnes q ∷ us) = q + tonnes us
