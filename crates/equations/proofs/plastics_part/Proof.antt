@@ -16,7 +16,10 @@ limits = 1 ∷ 1 ∷ []
 
 product-up-requires : tie.Need-product-up-requires
 unfolding small
-product-up-requires c κs = let s = c .before in (omega arith, s .pre .1, within-each _ limits refl (s .pre .2))
+product-up-requires c κs =
+    let s = c .before in
+    let t = s .pre .1 in
+    (omega arith, omega arith, within-each _ limits refl (s .pre .2))
 
 returns : tie.Need-returns
 unfolding numbers others productOf
@@ -25,7 +28,7 @@ returns c =
     let a = s .args in
     let h = s .pre .0 in
     let t = s .pre .1 in
-    figure (term (plastics (a .tonnes) (a .active) (a .part) (a .days))) _ _ _ _ _ (c .product-up .ensures) refl t (omega arith) (omega arith) (chain-at-most (a .active ∷ a .part ∷ []) limits (s .pre .2)) (omega arith)
+    figure (term (plastics (a .tonnes) (a .active) (a .part) (a .days))) _ _ _ _ _ (c .product-up .ensures) refl (omega arith) (omega arith) (omega arith) (chain-at-most (a .active ∷ a .part ∷ []) limits (s .pre .2)) (omega arith)
 
 pub plastics-part-spec : {M : Type 1} → statement M
 plastics-part-spec = tie.close (tie.spec (λ c. search needs) (λ c. search needs) product-up-requires returns)
