@@ -1,4 +1,4 @@
-//! The seven equations: for each compartment the exact emission as a sum of chains of factors, each factor with its
+//! The eight equations: for each compartment the exact emission as a sum of chains of factors, each factor with its
 //! value and its source, and the figure, the least whole number of micrograms not below it.
 
 use crate::case::{Case, QUANTITIES};
@@ -95,7 +95,12 @@ fn sheet(case: &Case) -> Sheet {
             emissions[3] = vec![formulation(case, 4)];
         }
         6 => emissions[water] = vec![consumption(case)],
-        _ => emissions[water] = vec![toilets(case)],
+        7 => emissions[water] = vec![toilets(case)],
+        8 => {
+            emissions[water] = vec![plastics(case, 2)];
+            emissions[2] = vec![plastics(case, 1)];
+        }
+        kind => unreachable!("kind {kind} is within the ranges"),
     }
     Sheet { case: *case, equation, source, emissions }
 }
@@ -116,7 +121,12 @@ pub fn equation(kind: u8) -> (&'static str, &'static str) {
         4 => ("E = a·0.1·1000·0.002·(1 − b)·c/D", "002, Table 3, l. 319"),
         5 => ("E = a·1000·b·c/T to water, a·1000·b·d/T to air, a·1000·b·e/T to soil", "000, 2.2.3, l. 501"),
         6 => ("E = 10000·H·M·G·a·b/1000", "000, Table 8, l. 777, with F_water 1 (l. 744)"),
-        _ => ("E = a·c·b·20·(1 − d)·e·(2000/60)·N", "002, Table 7, l. 652–653"),
+        7 => ("E = a·c·b·20·(1 − d)·e·(2000/60)·N", "002, Table 7, l. 652–653"),
+        8 => (
+            "E = Q·1000·a·b/T to air, Q·1000·a·c/T to water",
+            "004, 4.3.1, Table 4.4, l. 442–443, with TONNAGE = Q·1000/T (notes 1, 4, l. 445, 451)",
+        ),
+        kind => unreachable!("there is no kind {kind}"),
     }
 }
 
@@ -305,5 +315,18 @@ fn toilets(case: &Case) -> Chain {
         default("2000", "litres in a tank wagon", tables::WAGON_LITRES),
         default("60", "litres of sewage in a toilet", tables::TOILET_LITRES).dividing(),
         wagons,
+    ]
+}
+
+/// Kind 8, for the compartment whose fraction is quantity `release`.
+fn plastics(case: &Case, release: usize) -> Chain {
+    let usage = tables::usage(case.row, case.user).expect("a usage, within the ranges");
+    let meaning = format!("usage on site, {}, t per year", ranges::user_meaning(case.kind, case.user));
+    vec![
+        default("Q", &meaning, usage),
+        default("1000", "kilograms in a tonne", tables::KILOGRAMS_PLASTICS),
+        quantity(case, 0),
+        quantity(case, release),
+        count(case, "T").dividing(),
     ]
 }

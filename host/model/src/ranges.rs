@@ -1,8 +1,9 @@
-//! What a case may hold, and the refusals 1 to 11 in their order.
+//! What a case may hold, and the refusals 1 to 5, 31, 6 to 11 in their order.
 
 use crate::binary64;
 use crate::case::{Case, CASE_BYTES, QUANTITIES};
 use crate::ratio::Ratio;
+use crate::tables;
 use std::ops::RangeInclusive;
 
 /// Why a case is refused: the paper's number, the field, what it holds and what is allowed there.
@@ -44,7 +45,9 @@ const DENSITY: Listed = quantity(F, "density R", "kg/m3", 5000);
 const ACTIVE: Listed = fraction(A, "active fraction of the product");
 const SHARE: Listed = fraction(C, "market share");
 
-pub const KIND_NAMES: [&str; 7] = [
+pub const KINDS: RangeInclusive<u8> = 1..=8;
+
+pub const KIND_NAMES: [&str; 8] = [
     "city, leaching measured",
     "city, leaching unknown",
     "city, application",
@@ -52,15 +55,18 @@ pub const KIND_NAMES: [&str; 7] = [
     "formulation, by tonnage",
     "hygiene products, by consumption",
     "chemical toilets",
+    "plastics makers, by site",
 ];
 
-/// The rows of a kind.
+/// The rows of a kind; none where there is no such kind.
 pub fn rows(kind: u8) -> RangeInclusive<u8> {
     match kind {
         1..=3 => 0..=7,
         4 | 7 => 0..=1,
         5 => 0..=0,
-        _ => 0..=5,
+        6 => 0..=5,
+        8 => 1..=18,
+        _ => RangeInclusive::new(1, 0),
     }
 }
 
@@ -68,13 +74,28 @@ pub fn route_2_allowed(kind: u8, row: u8) -> bool {
     matches!(kind, 1..=3) && matches!(row, 0 | 3..=7)
 }
 
-/// The allowed users.
+/// The allowed users; for kind 8 those of its rows together.
 pub fn users(kind: u8) -> RangeInclusive<u8> {
-    if kind == 3 {
-        1..=2
-    } else {
-        0..=0
+    match kind {
+        3 => 1..=2,
+        8 => 1..=3,
+        _ => 0..=0,
     }
+}
+
+/// What a user stands for.
+pub fn user_meaning(kind: u8, user: u8) -> &'static str {
+    match (kind, user) {
+        (3, 1) => "professional",
+        (3, 2) => "not professional",
+        (8, _) => tables::process(user).unwrap_or(""),
+        _ => "",
+    }
+}
+
+/// Whether kind 8's polymer has a usage for the process. The other kinds take none from a table by user.
+pub fn has_usage(kind: u8, row: u8, user: u8) -> bool {
+    kind != 8 || tables::usage(row, user).is_some()
 }
 
 /// The allowed count T.
@@ -82,17 +103,17 @@ pub fn counts(kind: u8, row: u8) -> RangeInclusive<u32> {
     match (kind, row) {
         (1 | 2, 0) => 31..=36_500,
         (3 | 7, 0) => 1..=100,
-        (4 | 5, 0) => 1..=366,
+        (4 | 5, 0) | (8, _) => 1..=366,
         _ => 0..=0,
     }
 }
 
-/// What T means for a kind in row 0.
+/// What T means for a kind, in the rows that take one.
 pub fn count_meaning(kind: u8) -> &'static str {
     match kind {
         1 | 2 => "service life in days",
         3 => "houses treated per day",
-        4 | 5 => "emission days per year",
+        4 | 5 | 8 => "emission days per year",
         7 => "tank wagons per day",
         _ => "unused",
     }
@@ -136,6 +157,11 @@ fn listed_in_every_row(kind: u8) -> Vec<Listed> {
             fraction(D, "fraction disintegrated"),
             fraction(E, "fraction reaching the plant"),
         ],
+        8 => vec![
+            fraction(A, "active fraction of the plastic"),
+            fraction(B, "fraction to air"),
+            fraction(C, "fraction to water"),
+        ],
         _ => vec![],
     }
 }
@@ -154,7 +180,18 @@ fn listed_in_row_0(kind: u8) -> Vec<Listed> {
     }
 }
 
-/// The first of the refusals 1 to 11 that holds, in the paper's order.
+/// The fractions of a kind whose sum is at most 1, in the order in which they are added; and the sum as it is written.
+pub fn summed(kind: u8) -> (&'static [usize], &'static str) {
+    match kind {
+        5 => (&[C, D, E], "(c + d) + e"),
+        8 => (&[B, C], "b + c"),
+        _ => (&[], ""),
+    }
+}
+
+pub const SUM_LIMIT: &str = "at most 1, each addition rounded in binary64";
+
+/// The first of the refusals 1 to 5, 31, 6 to 11 that holds, in this order.
 pub fn violation(bytes: &[u8]) -> Option<Violation> {
     let Some(case) = Case::decode(bytes) else {
         return Some(Violation {
@@ -169,6 +206,7 @@ pub fn violation(bytes: &[u8]) -> Option<Violation> {
         row_not_allowed,
         route_not_allowed,
         user_not_allowed,
+        usage_missing,
         count_not_allowed,
         dossier_zero,
         pattern_not_allowed,
@@ -197,10 +235,10 @@ fn span<T: PartialEq + std::fmt::Display>(range: &RangeInclusive<T>) -> String {
 }
 
 fn kind_not_allowed(case: &Case) -> Option<Violation> {
-    if (1..=7).contains(&case.kind) {
+    if KINDS.contains(&case.kind) {
         return None;
     }
-    violated(2, "kind", case.kind.to_string(), "1 to 7".to_string())
+    violated(2, "kind", case.kind.to_string(), span(&KINDS))
 }
 
 fn row_not_allowed(case: &Case) -> Option<Violation> {
@@ -225,12 +263,32 @@ fn user_not_allowed(case: &Case) -> Option<Violation> {
     if users(case.kind).contains(&case.user) {
         return None;
     }
-    let allowed = if case.kind == 3 {
-        "1 (professional) or 2 (not professional) for kind 3".to_string()
-    } else {
-        format!("0 for kind {}", case.kind)
-    };
+    let allowed = format!("{} for kind {}", named_users(case.kind, users(case.kind)), case.kind);
     violated(5, "user", case.user.to_string(), allowed)
+}
+
+/// Some users of a kind with what they stand for.
+pub fn named_users(kind: u8, users: impl Iterator<Item = u8>) -> String {
+    let named = users.map(|user| match user_meaning(kind, user) {
+        "" => user.to_string(),
+        meaning => format!("{user} ({meaning})"),
+    });
+    let named: Vec<String> = named.collect();
+    match named.split_last() {
+        Some((last, before)) if !before.is_empty() => format!("{} or {last}", before.join(", ")),
+        _ => named.concat(),
+    }
+}
+
+fn usage_missing(case: &Case) -> Option<Violation> {
+    let Case { kind, row, user, .. } = *case;
+    if has_usage(kind, row, user) {
+        return None;
+    }
+    let found = format!("{user} ({})", user_meaning(kind, user));
+    let others = users(kind).filter(|&user| has_usage(kind, row, user));
+    let polymer = tables::polymer_row(row).map_or("", |polymer| polymer.name);
+    violated(31, "user", found, format!("{} for kind {kind} row {row} ({polymer})", named_users(kind, others)))
 }
 
 fn count_not_allowed(case: &Case) -> Option<Violation> {
@@ -283,20 +341,12 @@ fn over_limit(case: &Case) -> Option<Violation> {
 }
 
 fn sum_over_one(case: &Case) -> Option<Violation> {
-    if case.kind != 5 {
-        return None;
-    }
-    let sum = rounded_release(case);
+    let (fractions, written) = summed(case.kind);
+    let sum = fractions.iter().map(|&index| case.patterns[index]).reduce(binary64::rounded_sum)?;
     if binary64::exact(sum) <= Ratio::whole(1) {
         return None;
     }
-    violated(11, "(c + d) + e", binary64::shortest(sum), "at most 1, each addition rounded in binary64".to_string())
-}
-
-/// Kind 5's sum (c + d) + e, both additions rounded.
-fn rounded_release(case: &Case) -> u64 {
-    let [_, _, c, d, e, _] = case.patterns;
-    binary64::rounded_sum(binary64::rounded_sum(c, d), e)
+    violated(11, written, binary64::shortest(sum), SUM_LIMIT.to_string())
 }
 
 /// Any pattern's value for a message.
@@ -342,5 +392,29 @@ mod tests {
         assert_eq!(names(5, 0), "abcde");
         assert_eq!((names(6, 0).as_str(), names(6, 5).as_str()), ("abdef", "ab"));
         assert_eq!((names(7, 0).as_str(), names(7, 1).as_str()), ("abcde", "abcde"));
+        assert_eq!((names(8, 1).as_str(), names(8, 18).as_str()), ("abc", "abc"));
+    }
+
+    #[test]
+    fn users_in_words() {
+        let words = [3, 4, 8].map(|kind| named_users(kind, users(kind)));
+        let processes = "1 (open process), 2 (partially open process) or 3 (closed process)";
+        assert_eq!(words, ["1 (professional) or 2 (not professional)", "0", processes]);
+        assert_eq!(named_users(8, 3..=3), "3 (closed process)");
+    }
+
+    #[test]
+    fn a_missing_usage_names_the_processes_that_have_one() {
+        let mut case = Case { kind: 8, row: 1, route: 1, user: 1, count: 0, dossier: 0, patterns: [1 << 63; 6] };
+        let violation = usage_missing(&case).unwrap();
+        let Violation { number, field, found, allowed } = &violation;
+        assert_eq!((*number, field.as_str(), found.as_str()), (31, "user", "1 (open process)"));
+        assert_eq!(allowed, "2 (partially open process) or 3 (closed process) for kind 8 row 1 (LDPE)");
+        assert_eq!(super::violation(&case.encode()), Some(violation));
+        case.row = 7;
+        let allowed = usage_missing(&case).unwrap().allowed;
+        assert_eq!(allowed, "3 (closed process) for kind 8 row 7 (Expanded polystyrene)");
+        case.user = 3;
+        assert_eq!(usage_missing(&case), None);
     }
 }

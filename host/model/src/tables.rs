@@ -4,7 +4,7 @@
 use crate::ratio::Ratio;
 
 /// The source documents and their titles.
-pub const DOCUMENTS: [(&str, &str); 3] = [
+pub const DOCUMENTS: [(&str, &str); 4] = [
     (
         "000",
         "Emission Scenario Document for Product Type 6, preservatives for products during storage, version 1.1, \
@@ -19,6 +19,12 @@ pub const DOCUMENTS: [(&str, &str); 3] = [
         "002",
         "Emission Scenario Document for Product Type 2, Private and public health area disinfectants and other \
          biocidal products, EUR 25115 EN, JRC, 2011, ISBN 978-92-79-22399-0, doi:10.2788/29058",
+    ),
+    (
+        "004",
+        "Supplement to the methodology for risk evaluation of biocides, Environmental Emission Scenarios for Biocides \
+         used as Preservatives in rubber and polymerised materials (Product type 9), EUBEES, European Commission DG ENV \
+         / RIVM, January 2004",
     ),
 ];
 
@@ -58,9 +64,14 @@ pub const PRECHARGE_LITRES: DefaultValue = default("20", "002, Table 7, l. 642")
 pub const WAGON_LITRES: DefaultValue = default("2000", "002, Table 7, l. 644");
 pub const TOILET_LITRES: DefaultValue = default("60", "002, Table 7, l. 643");
 pub const WAGONS: DefaultValue = default("1", "002, Table 7, l. 645");
+pub const KILOGRAMS_PLASTICS: DefaultValue = default(
+    "1000",
+    "in no document; from Q in tonnes per year (004, 3.3, Table 3.1, l. 248) and TONNAGE in kg per day (4.3.1, Table \
+     4.4, l. 421)",
+);
 
 /// The defaults of the equations outside the row tables: kinds, symbol, meaning.
-pub const CONSTANTS: [(&str, &str, DefaultValue); 17] = [
+pub const CONSTANTS: [(&str, &str, DefaultValue); 18] = [
     ("1, 2", "houses in the city", HOUSES),
     ("1", "days counted as recent", RECENT_DAYS),
     ("2", "litres in a cubic metre (divisor)", LITRES_LEACHING),
@@ -78,6 +89,7 @@ pub const CONSTANTS: [(&str, &str, DefaultValue); 17] = [
     ("7", "litres in a tank wagon", WAGON_LITRES),
     ("7", "litres of sewage in a toilet (divisor)", TOILET_LITRES),
     ("7", "N, tank wagons per day, row 1", WAGONS),
+    ("8", "kilograms in a tonne", KILOGRAMS_PLASTICS),
 ];
 
 /// A row of the city tables of document 001: kind 1 goes by Table 1, kinds 2 and 3 by Table 2 (l. 197, 206, 277), which
@@ -207,12 +219,78 @@ pub const HYGIENE_ROWS: [HygieneRow; 5] = [
     hygiene!(5, "mouth wash", "10", "3", "0.05", 2025),
 ];
 
+/// A row of the polymers (document 004, section 3.3, Table 3.1; the document has another table of that number, in 3.4).
+#[derive(Clone, Copy, Debug)]
+pub struct PolymerRow {
+    pub row: u8,
+    pub name: &'static str,
+    /// Usage on site Q in tonnes per year, in the order of [`PROCESSES`]; none where the table has none.
+    pub usages: [Option<DefaultValue>; 3],
+}
+
+/// The processes, numbered from 1.
+pub const PROCESSES: [&str; 3] = ["open process", "partially open process", "closed process"];
+
+macro_rules! usage {
+    (-, $line:literal) => {
+        None
+    };
+    ($usage:literal, $line:literal) => {
+        Some(default($usage, concat!("004, 3.3, Table 3.1, l. ", $line)))
+    };
+}
+
+/// A polymer with its usages in an open, a partially open and a closed process, and its line.
+macro_rules! polymer {
+    ($row:literal, $name:literal, $open:tt, $partially_open:tt, $closed:tt, $line:literal) => {
+        PolymerRow {
+            row: $row,
+            name: $name,
+            usages: [usage!($open, $line), usage!($partially_open, $line), usage!($closed, $line)],
+        }
+    };
+}
+
+pub const POLYMER_ROWS: [PolymerRow; 18] = [
+    polymer!(1, "LDPE", -, "23100", "528", 250),
+    polymer!(2, "HDPE", -, "2070", "2130", 251),
+    polymer!(3, "Polypropylene", -, "8880", "1610", 252),
+    polymer!(4, "Rigid PVC", "988", -, "2010", 253),
+    polymer!(5, "Flexible PVC", "744", "3990", "341", 254),
+    polymer!(6, "Polystyrene", "605", "389", "623", 255),
+    polymer!(7, "Expanded polystyrene", -, -, "2790", 256),
+    polymer!(8, "ABS", "78", -, "428", 257),
+    polymer!(9, "PET", "176", -, "814", 258),
+    polymer!(10, "Polyamides", "39", -, "181", 259),
+    polymer!(11, "Acrylics", "55", "207", "28", 260),
+    polymer!(12, "Acetals", -, "52", "84", 261),
+    polymer!(13, "Polycarbonates", -, "62", "69", 262),
+    polymer!(14, "Polyurethanes", -, -, "804", 263),
+    polymer!(15, "Unsaturated polyesters", "575", -, "206", 264),
+    polymer!(16, "Phenolic resins", -, -, "121", 265),
+    polymer!(17, "Amino resins", -, -, "469", 266),
+    polymer!(18, "Epoxy resins", -, -, "80", 267),
+];
+
 pub fn city_row(row: u8) -> Option<&'static CityRow> {
     CITY_ROWS.iter().find(|city| city.row == row)
 }
 
 pub fn hygiene_row(row: u8) -> Option<&'static HygieneRow> {
     HYGIENE_ROWS.iter().find(|hygiene| hygiene.row == row)
+}
+
+pub fn polymer_row(row: u8) -> Option<&'static PolymerRow> {
+    POLYMER_ROWS.iter().find(|polymer| polymer.row == row)
+}
+
+pub fn process(number: u8) -> Option<&'static str> {
+    PROCESSES.get(usize::from(number).checked_sub(1)?).copied()
+}
+
+/// The usage on site of a row's polymer for a process, where it has one.
+pub fn usage(row: u8, process: u8) -> Option<DefaultValue> {
+    *polymer_row(row)?.usages.get(usize::from(process).checked_sub(1)?)?
 }
 
 /// What must be known of a row in kinds 2 and 3, which multiply A by V.
@@ -222,6 +300,13 @@ pub fn volume_note(row: u8) -> Option<&'static str> {
          joints, as is done here. With the wall's 125 m2 the figures of kinds 2 and 3 would be 25/7 times as high.",
     )
 }
+
+/// What must be known of kind 8's numbers.
+pub const PLASTICS_NOTE: &str =
+    "Q is from the UK, \"probably not representative for all of the EU\" (004, l. 244). b and c are totals over \
+     handling, compounding and conversion at one site (l. 432–433); where compounding and conversion are at separate \
+     sites, conversion counts as 0 at the first, handling and compounding at the second (l. 449). 004 has default \
+     fractions by particle size, volatility and process in 4.3.4 (l. 523–587), no single numbers for b and c.";
 
 /// What the documents suggest for quantities that a case gives itself: kind, quantity, meaning, suggestion.
 pub const SUGGESTIONS: [(u8, char, &str, DefaultValue); 8] = [

@@ -1,4 +1,4 @@
-//! The pencil cases P1 to P10 and the edges of the requirements, against the model's exact values.
+//! The pencil cases P1 to P10, cases of plastics and the edges of the requirements, against the model's exact values.
 
 use csorvelin_model::case::Case;
 use csorvelin_model::equations::{work_out, Sheet};
@@ -78,6 +78,51 @@ fn edges() {
     assert_eq!(refusal(&outdoors(3).encode()), 0);
     let figures = work_out(&outdoors(3).encode()).unwrap();
     assert!(figures[0] == 0 && figures[1] > 0);
+}
+
+/// Kind 8: a row, a user, T, and the quantities a, b, c.
+fn plastics(row: u8, user: u8, count: u32, [a, b, c]: [f64; 3]) -> Case {
+    Case { user, count, ..case(8, row, [a, b, c, 0., 0., 0.]) }
+}
+
+#[test]
+fn plastics_by_hand() {
+    // 23,100,000 kg in 250 days, half of it active: 46,200 kg a day, of which an eighth goes to water, a fourth to air.
+    let ldpe = plastics(1, 2, 250, [0.5, 0.25, 0.125]);
+    assert_eq!(kilograms(&ldpe), [5775, 0, 11_550, 0].map(Ratio::whole));
+    assert_eq!(work_out(&ldpe.encode()), Ok([5_775_000_000_000, 0, 11_550_000_000_000, 0]));
+    // 80 t, all of it to water in the longest year.
+    let epoxy = plastics(18, 3, 366, [1., 0., 1.]);
+    assert_eq!(kilograms(&epoxy), to_stp(fraction(40_000, 183)));
+    assert_eq!(work_out(&epoxy.encode()), Ok([218_579_234_973, 0, 0, 0]));
+}
+
+#[test]
+fn the_sum_of_plastics_is_rounded_once() {
+    let half_step = 2f64.powi(-53);
+    let sum = |b, c| work_out(&plastics(1, 3, 1, [1., b, c]).encode());
+    // A tie, which goes to even, and so to 1.
+    assert_eq!(sum(1., half_step), Ok([1, 0, 528_000_000_000_000, 0]));
+    assert_eq!(sum(half_step, 1.), Ok([528_000_000_000_000, 0, 1, 0]));
+    assert_eq!(sum(1., half_step.next_up()), Err(11));
+    assert_eq!(sum(0.5, 0.5f64.next_up()), Ok([264_000_000_000_001, 0, 264_000_000_000_000, 0]));
+    assert_eq!(sum(0.75, 0.5), Err(11));
+}
+
+#[test]
+fn a_polymer_without_usage() {
+    // LDPE is used in no open process; where no process is meant, or no polymer, that is said first.
+    let refusal = |row, user, route, count| {
+        refusal(&Case { route, dossier: 0, ..plastics(row, user, count, [-1., 2., 2.]) }.encode())
+    };
+    assert_eq!(refusal(1, 1, 1, 250), 31);
+    assert_eq!(refusal(1, 1, 1, 0), 31);
+    assert_eq!(refusal(1, 2, 1, 0), 6);
+    assert_eq!([0, 4].map(|user| refusal(1, user, 1, 0)), [5, 5]);
+    assert_eq!([0, 19].map(|row| refusal(row, 1, 2, 0)), [3, 3]);
+    assert_eq!([0, 2, 3].map(|route| refusal(1, 1, route, 0)), [4, 4, 4]);
+    assert_eq!(refusal(1, 2, 1, 366), 7);
+    assert_eq!(refusal(1, 2, 1, 367), 6);
 }
 
 #[test]
