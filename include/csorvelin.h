@@ -39,7 +39,7 @@ extern "C" {
 #endif
 
 /* The version of library, header and command. It stands here and nowhere else. */
-#define CSORVELIN_VERSION "1.2.0"
+#define CSORVELIN_VERSION "1.3.0"
 
 /* Sizes in bytes. */
 #define CSORVELIN_CASE_SIZE 64
@@ -64,18 +64,19 @@ extern "C" {
 
 /* Refusals. A call returns the first one of its own list that holds. */
 #define CSORVELIN_ACCEPTED 0
-/* from the case: work out and file */
+/* from the case, in the order in which work out and file look for them */
 #define CSORVELIN_CASE_SIZE_WRONG 1      /* the case is not 64 bytes */
-#define CSORVELIN_KIND_UNKNOWN 2         /* the kind is not 1 to 7 */
+#define CSORVELIN_KIND_UNKNOWN 2         /* the kind is not 1 to 8 */
 #define CSORVELIN_ROW_UNKNOWN 3          /* the kind has no such row */
 #define CSORVELIN_ROUTE_NOT_ALLOWED 4    /* the route is neither 1 nor, where kind and row allow it, 2 */
 #define CSORVELIN_USER_NOT_ALLOWED 5     /* the user is not one that the kind allows */
+#define CSORVELIN_NO_USAGE 31            /* kind 8: the polymer has no usage for the process that the user names */
 #define CSORVELIN_COUNT_NOT_ALLOWED 6    /* the count T is outside the range of kind and row */
 #define CSORVELIN_DOSSIER_ZERO 7         /* the dossier number is 0 */
 #define CSORVELIN_NOT_A_NUMBER 8         /* a quantity has its sign bit set, or is infinite or no number */
 #define CSORVELIN_UNLISTED_NOT_ZERO 9    /* a quantity that the kind does not have is not eight zero bytes */
 #define CSORVELIN_OVER_LIMIT 10          /* a quantity is over its limit */
-#define CSORVELIN_FRACTIONS_OVER_ONE 11  /* kind 5: the fractions to water, air and soil add up to over 1 */
+#define CSORVELIN_FRACTIONS_OVER_ONE 11  /* kinds 5 and 8: the fractions to the compartments add up to over 1 */
 /* from the compartment: worst */
 #define CSORVELIN_COMPARTMENT_UNKNOWN 12 /* the compartment is not 1 to 4 */
 /* from the archive: 21 in every call that is given a used length */
@@ -88,8 +89,8 @@ extern "C" {
  * Work out: the four figures of a case, in whole micrograms per day: sewage
  * treatment plant, surface water, air, soil. Each is the exact value of its
  * equation rounded up once.
- * Refusals, in this order: 1 to 11. Beside a refusal the four figures are 0
- * and count as no result.
+ * Refusals, in this order: 1 to 5, 31, 6 to 11. Beside a refusal the four
+ * figures are 0 and count as no result.
  */
 uint32_t csorvelin_work_out(const uint8_t *case_bytes, size_t case_len,
                             uint64_t figures[4]);
@@ -108,8 +109,8 @@ uint32_t csorvelin_empty(uint8_t *archive, size_t size, uint64_t *used);
  * the archive in it and comes out as the new one. *number is set to the number
  * of the new record, from 0. The new record and the new trailer are written,
  * and no other byte.
- * Refusals, in this order: 1 to 11, 21, 22, 23. Beside a refusal *used is as
- * given and *number is 0.
+ * Refusals, in this order: 1 to 5, 31, 6 to 11, 21, 22, 23. Beside a refusal
+ * *used is as given and *number is 0.
  */
 uint32_t csorvelin_file(uint8_t *archive, size_t size, uint64_t *used,
                         const uint8_t *case_bytes, size_t case_len,

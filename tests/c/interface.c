@@ -57,7 +57,7 @@ static void make_case(uint8_t bytes[CSORVELIN_CASE_SIZE], const struct inputs *i
         put_little_endian(bytes + 16 + 8 * i, pattern_of(in->quantities[i]), 8);
 }
 
-/* The pencil cases. */
+/* The pencil cases, then plastics: LDPE in a partially open process. */
 static const struct inputs pencil[] = {
     {4, 1, 1, 0, 0, 7, {100, 0, 1}},
     {2, 3, 1, 0, 0, 7, {1.0 / 64, 0, 1}},
@@ -70,9 +70,11 @@ static const struct inputs pencil[] = {
     {5, 0, 1, 0, 250, 7, {16, 0.125, 0.75, 0.25, 0x1p-52}},
     {5, 0, 1, 0, 250, 7, {16, 0.125, 0.75, 0.25, 0x1p-54}},
     {4, 1, 1, 0, 0, 7, {100, 1, 1}},
+    {8, 1, 1, 2, 250, 7, {0.5, 0.25, 0.125}},
 };
-static const char *const pencil_names[] = {"P1", "P2", "P3", "P4", "P5",  "P6",
-                                           "P7", "P8", "P9", "P9 with e 2^-54", "P10"};
+static const char *const pencil_names[] = {"P1", "P2", "P3", "P4", "P5", "P6", "P7", "P8", "P9",
+                                           "P9 with e 2^-54", "P10", "plastics"};
+static const struct inputs *const plastics = &pencil[11];
 
 /* A constant's name and value. */
 #define NAMED(constant) #constant, constant
@@ -83,16 +85,18 @@ static const struct {
     uint32_t refusal;
     struct inputs in;
 } refused[] = {
-    {NAMED(CSORVELIN_KIND_UNKNOWN), {8, 1, 1, 0, 0, 7, {100, 0, 1}}},
+    {NAMED(CSORVELIN_KIND_UNKNOWN), {9, 1, 1, 0, 0, 7, {100, 0, 1}}},
     {NAMED(CSORVELIN_ROW_UNKNOWN), {4, 2, 1, 0, 0, 7, {100, 0, 1}}},
     {NAMED(CSORVELIN_ROUTE_NOT_ALLOWED), {2, 2, 2, 0, 0, 7, {1, 0, 1}}},
     {NAMED(CSORVELIN_USER_NOT_ALLOWED), {4, 1, 1, 1, 0, 7, {100, 0, 1}}},
+    {NAMED(CSORVELIN_NO_USAGE), {8, 1, 1, 1, 250, 7, {0.5, 0.25, 0.125}}},
     {NAMED(CSORVELIN_COUNT_NOT_ALLOWED), {1, 0, 1, 0, 30, 7, {1, 1, 1, 1}}},
     {NAMED(CSORVELIN_DOSSIER_ZERO), {4, 1, 1, 0, 0, 0, {100, 0, 1}}},
     {NAMED(CSORVELIN_NOT_A_NUMBER), {4, 1, 1, 0, 0, 7, {100, -0.0, 1}}},
     {NAMED(CSORVELIN_UNLISTED_NOT_ZERO), {4, 1, 1, 0, 0, 7, {100, 0, 1, 1}}},
     {NAMED(CSORVELIN_OVER_LIMIT), {4, 1, 1, 0, 0, 7, {1000001, 0, 1}}},
     {NAMED(CSORVELIN_FRACTIONS_OVER_ONE), {5, 0, 1, 0, 250, 7, {16, 1, 1, 0x1p-52, 0}}},
+    {NAMED(CSORVELIN_FRACTIONS_OVER_ONE), {8, 1, 1, 2, 250, 7, {0.5, 1, 0x1p-52}}},
 };
 
 static void print_worked(const char *name, const uint8_t *bytes, size_t length)
@@ -439,5 +443,12 @@ int main(void)
     overwrite(2, (const uint64_t[4]){0, POWER(63) + 1, UINT64_MAX - 2047, UINT64_MAX - 2046});
     export(SIZE, used, 2);
     empty(SIZE);
+
+    used = file(SIZE, CSORVELIN_USED_LENGTH(0), plastics);
+    show(used, 0);
+    export(SIZE, used, 0);
+    used = file(SIZE, used, plastics);
+    /* without a usage, and T is 0 */
+    file(SIZE, used, &(const struct inputs){8, 1, 1, 1, 0, 7, {0.5, 0.25, 0.125}});
     return 0;
 }

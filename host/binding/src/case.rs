@@ -5,7 +5,7 @@ use crate::{sys, Refusal};
 pub const CASE_BYTES: usize = 64;
 pub const LOAD_BYTES: usize = 8;
 
-/// The seven kinds of case.
+/// The eight kinds of case.
 #[derive(Clone, Copy, Debug, PartialEq, Eq)]
 #[repr(u8)]
 pub enum Kind {
@@ -16,6 +16,7 @@ pub enum Kind {
     Formulation = 5,
     Hygiene = 6,
     ChemicalToilets = 7,
+    Plastics = 8,
 }
 
 /// The six places for quantities.

@@ -1,4 +1,4 @@
-//! The refusals, by their numbers.
+//! The refusals, by their numbers, in the order in which they are looked for.
 
 use std::fmt;
 
@@ -10,6 +10,7 @@ pub enum Refusal {
     Row = 3,
     Route = 4,
     User = 5,
+    NoUsage = 31,
     Count = 6,
     Dossier = 7,
     Pattern = 8,
@@ -24,12 +25,13 @@ pub enum Refusal {
 }
 
 impl Refusal {
-    pub const ALL: [Refusal; 16] = [
+    pub const ALL: [Refusal; 17] = [
         Refusal::CaseLength,
         Refusal::Kind,
         Refusal::Row,
         Refusal::Route,
         Refusal::User,
+        Refusal::NoUsage,
         Refusal::Count,
         Refusal::Dossier,
         Refusal::Pattern,
@@ -55,16 +57,17 @@ impl Refusal {
     pub fn words(self) -> &'static str {
         match self {
             Refusal::CaseLength => "the case is not 64 bytes long",
-            Refusal::Kind => "the kind is not one of 1 to 7",
+            Refusal::Kind => "the kind is not one of 1 to 8",
             Refusal::Row => "the row is not among the kind's",
             Refusal::Route => "the route is not allowed for this kind and row",
             Refusal::User => "the user is not allowed for this kind",
+            Refusal::NoUsage => "the polymer has no usage for this process",
             Refusal::Count => "the count T is not allowed for this kind and row",
             Refusal::Dossier => "the dossier number is 0",
             Refusal::Pattern => "a quantity has its sign bit set or is no finite number",
             Refusal::Unlisted => "a quantity that this kind and row do not carry is not zero",
             Refusal::OverLimit => "a quantity is over its limit",
-            Refusal::SumOverOne => "the fractions to water, air and soil add up to more than 1",
+            Refusal::SumOverOne => "the fractions to the compartments add up to more than 1",
             Refusal::Compartment => "the compartment is not one of 1 to 4",
             Refusal::NotAnArchive => "this is not a whole archive: its length or its trailer is wrong",
             Refusal::Held => "the same filing is already held",

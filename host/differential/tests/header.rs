@@ -26,6 +26,7 @@ fn name_of_refusal(refusal: Refusal) -> &'static str {
         Refusal::Row => "ROW_UNKNOWN",
         Refusal::Route => "ROUTE_NOT_ALLOWED",
         Refusal::User => "USER_NOT_ALLOWED",
+        Refusal::NoUsage => "NO_USAGE",
         Refusal::Count => "COUNT_NOT_ALLOWED",
         Refusal::Dossier => "DOSSIER_ZERO",
         Refusal::Pattern => "NOT_A_NUMBER",
