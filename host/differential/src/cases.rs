@@ -3,23 +3,34 @@
 use crate::random::Random;
 use csorvelin_model::case::Case;
 use csorvelin_model::ranges;
+use std::ops::RangeInclusive;
 
 /// The kinds and rows there are.
 pub fn kinds_and_rows() -> Vec<(u8, u8)> {
-    (1..=7).flat_map(|kind| ranges::rows(kind).map(move |row| (kind, row))).collect()
+    ranges::KINDS.flat_map(|kind| ranges::rows(kind).map(move |row| (kind, row))).collect()
 }
 
-/// A case within the ranges, of any kind and row.
+/// A case within the ranges, of any kind, each as often as the others, and any of its rows.
 pub fn valid(random: &mut Random) -> Case {
-    let (kind, row) = random.pick(&kinds_and_rows());
+    let kind = among(ranges::KINDS, random);
+    valid_of_kind(kind, random)
+}
+
+/// A case within the ranges, of this kind and any of its rows.
+fn valid_of_kind(kind: u8, random: &mut Random) -> Case {
+    let row = among(ranges::rows(kind), random);
     valid_of(kind, row, random)
+}
+
+fn among(range: RangeInclusive<u8>, random: &mut Random) -> u8 {
+    random.between(u64::from(*range.start()), u64::from(*range.end())) as u8
 }
 
 /// A case within the ranges, of this kind and row.
 pub fn valid_of(kind: u8, row: u8, random: &mut Random) -> Case {
     let route = if ranges::route_2_allowed(kind, row) { random.between(1, 2) as u8 } else { 1 };
-    let users = ranges::users(kind);
-    let user = random.between(u64::from(*users.start()), u64::from(*users.end())) as u8;
+    let users: Vec<u8> = ranges::users(kind).filter(|&user| ranges::has_usage(kind, row, user)).collect();
+    let user = random.pick(&users);
     let counts = ranges::counts(kind, row);
     let (least, most) = (u64::from(*counts.start()), u64::from(*counts.end()));
     let count = match random.below(4) {
@@ -36,8 +47,11 @@ pub fn valid_of(kind: u8, row: u8, random: &mut Random) -> Case {
     for listed in ranges::listed(kind, row) {
         patterns[listed.index] = quantity(listed.limit as f64, random);
     }
-    if kind == 5 {
-        [patterns[2], patterns[3], patterns[4]] = release_fractions(random);
+    let (summed, _) = ranges::summed(kind);
+    if !summed.is_empty() {
+        for (&index, fraction) in summed.iter().zip(release_fractions(summed.len(), random)) {
+            patterns[index] = fraction;
+        }
     }
     Case { kind, row, route, user, count: count as u32, dossier, patterns }
 }
@@ -60,25 +74,27 @@ fn quantity(limit: f64, random: &mut Random) -> u64 {
     }
 }
 
-/// Kind 5's c, d and e with a rounded sum of at most 1, often at 1 or next to it.
-fn release_fractions(random: &mut Random) -> [u64; 3] {
-    let c = f64::from_bits(quantity(1., random));
-    let d = f64::from_bits(quantity(1., random)).min(1. - c);
-    let rest = (1. - (c + d)).max(0.);
-    let e = match random.below(5) {
+/// So many fractions, one at least, with a rounded sum of at most 1, often at 1 or next to it.
+fn release_fractions(count: usize, random: &mut Random) -> Vec<u64> {
+    let mut fractions: Vec<f64> = vec![];
+    let mut sum = 0f64;
+    for _ in 1..count {
+        fractions.push(f64::from_bits(quantity(1., random)).min(1. - sum));
+        sum = fractions.iter().sum();
+    }
+    let rest = (1. - sum).max(0.);
+    let last = match random.below(5) {
         0 => rest,
         1 => 2f64.powi(-(random.between(52, 56) as i32)),
         2 => f64::from_bits(random.below(4)),
         _ => rest * (random.below(1001) as f64 / 1000.),
     };
-    let e = if (c + d) + e <= 1. { e } else { 0. };
-    let mut fractions = [c, d, e].map(f64::to_bits);
+    fractions.push(if sum + last <= 1. { last } else { 0. });
     // Sums of two roundings are not symmetric; only an order that passes is kept.
-    let [first, second, third] = fractions;
-    if random.one_in(2) && (f64::from_bits(third) + f64::from_bits(second)) + f64::from_bits(first) <= 1. {
-        fractions = [third, second, first];
+    if random.one_in(2) && fractions.iter().rev().sum::<f64>() <= 1. {
+        fractions.reverse();
     }
-    fractions
+    fractions.into_iter().map(f64::to_bits).collect()
 }
 
 /// A case with one to four faults laid over a valid one.
@@ -92,8 +108,8 @@ pub fn damaged(random: &mut Random) -> Case {
 
 fn damage(case: &mut Case, random: &mut Random) {
     let index = random.below(6) as usize;
-    let near = [0, 1, 2, 3, 4, 5, 6, 7, 8, 9, 128, 255];
-    match random.below(12) {
+    let near = [0, 1, 2, 3, 4, 5, 6, 7, 8, 9, 18, 19, 128, 255];
+    match random.below(13) {
         0 => case.kind = random.pick(&near),
         1 => case.row = random.pick(&near),
         2 => case.route = random.pick(&near),
@@ -105,9 +121,15 @@ fn damage(case: &mut Case, random: &mut Random) {
         8 => case.patterns[index] = random.word(),
         9 => case.patterns[index] = over_a_limit(random),
         10 => case.patterns[index] = random.word() >> 12,
+        11 => {
+            // Perhaps of a polymer that has no usage for the process.
+            *case = valid_of_kind(8, random);
+            case.user = among(ranges::users(8), random);
+        }
         _ => {
-            *case = valid_of(5, 0, random);
-            case.patterns[random.between(2, 4) as usize] = (random.pick(&[0.5, 0.75, 1.0f64])).to_bits();
+            let kind = random.pick(&[5, 8]);
+            *case = valid_of_kind(kind, random);
+            case.patterns[random.pick(ranges::summed(kind).0)] = (random.pick(&[0.5, 0.75, 1.0f64])).to_bits();
         }
     }
 }

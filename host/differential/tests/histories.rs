@@ -160,7 +160,7 @@ fn small_buffers_of_every_size() {
     for size in 16..500 {
         gather(&mut all, run(size, 2000 + size as u64, 200));
     }
-    for key in [("file", 0), ("file", 1), ("file", 8), ("file", 22), ("file", 23), ("empty", 0)] {
+    for key in [("file", 0), ("file", 1), ("file", 8), ("file", 31), ("file", 22), ("file", 23), ("empty", 0)] {
         assert!(all.get(&key).copied().unwrap_or(0) >= 100, "{key:?} in {all:?}");
     }
     for key in [("show", 0), ("show", 24), ("export", 0), ("export", 24), ("worst", 0), ("worst", 12), ("worst", 24)] {
@@ -224,7 +224,8 @@ fn the_same_filing_bit_by_bit() {
             filed += u32::from(answer == 0);
         }
     }
-    assert!(held >= 5000 && filed >= 64 * 35, "{held} held, {filed} filed");
+    let rows = cases::kinds_and_rows().len() as u32;
+    assert!(held >= 150 * rows && filed >= 64 * rows, "{held} held, {filed} filed");
 }
 
 /// Under 16 bytes no archive can be: empty is refused and every other call too, and no byte changes.

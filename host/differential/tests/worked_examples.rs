@@ -1,4 +1,4 @@
-//! The pencil cases and edges of the requirements, through the library.
+//! The pencil cases, cases of plastics and edges of the requirements, through the library.
 
 use csorvelin_binding::{load, work_out, Archive, Case, Compartment, Figures, Kind, Quantity, Refusal};
 use Quantity::{A, B, C, D, E};
@@ -43,6 +43,37 @@ fn p9_and_p10() {
     assert_eq!(refusal(&p9.with(E, 2f64.powi(-53))), None);
     assert_eq!(refusal(&p9.with(E, 2f64.powi(-54))), None);
     assert_eq!(work_out(&p1().with(B, 1.).to_bytes()), Ok(Figures::default()));
+}
+
+/// LDPE in a partially open process.
+fn ldpe() -> Case {
+    Case::new(Kind::Plastics, 1, 7).user(2).count(250).with(A, 0.5).with(B, 0.25).with(C, 0.125)
+}
+
+#[test]
+fn plastics() {
+    // 23,100,000 kg in 250 days, half of it active: 46,200 kg a day, of which an eighth goes to water, a fourth to air.
+    assert_eq!(figures(&ldpe()), [5_775_000_000_000, 0, 11_550_000_000_000, 0]);
+    // In a closed one 528 t: 1056 kg a day.
+    assert_eq!(figures(&ldpe().user(3)), [132_000_000_000, 0, 264_000_000_000, 0]);
+    // In an open one none, whatever else is wrong behind that.
+    assert_eq!(work_out(&ldpe().user(1).to_bytes()), Err(Refusal::NoUsage));
+    assert_eq!(work_out(&ldpe().user(1).count(0).with(A, -1.).to_bytes()), Err(Refusal::NoUsage));
+    assert_eq!(work_out(&ldpe().count(0).to_bytes()), Err(Refusal::Count));
+    assert_eq!(work_out(&ldpe().user(4).to_bytes()), Err(Refusal::User));
+    assert_eq!(work_out(&ldpe().route(2).user(1).to_bytes()), Err(Refusal::Route));
+    assert_eq!([0, 19].map(|row| refusal(&Case { row, ..ldpe() })), [Some(3); 2]);
+    assert_eq!(work_out(&ldpe().with(B, 1.).to_bytes()), Err(Refusal::SumOverOne));
+    let mut archive = Archive::new();
+    assert_eq!(archive.file(&ldpe().user(1).to_bytes()), Err(Refusal::NoUsage));
+    assert_eq!(archive.file(&ldpe().to_bytes()), Ok(0));
+    // Another process is another filing.
+    assert_eq!(archive.file(&ldpe().user(3).to_bytes()), Ok(1));
+    assert_eq!(archive.file(&ldpe().count(1).to_bytes()), Err(Refusal::Held));
+    assert_eq!(archive.worst(Compartment::Air), Ok(0));
+    assert_eq!(archive.show(1).unwrap().case(), ldpe().user(3));
+    let loads = [5_775e9f64, 0., 11_550e9, 0.].map(f64::to_le_bytes);
+    assert_eq!(archive.export(0).unwrap(), loads.as_flattened());
 }
 
 #[test]
