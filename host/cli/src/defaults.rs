@@ -1,7 +1,7 @@
 //! The default tables with their sources.
 
 use crate::json::Json;
-use csorvelin_model::tables::{self, CityRow, DefaultValue, HygieneRow};
+use csorvelin_model::tables::{self, CityRow, DefaultValue, HygieneRow, PolymerRow, PROCESSES};
 
 pub fn text() -> String {
     let mut text = "Source documents (l. is a line of the text copy; docs/DEFAULTS.md has its SHA-256)\n".to_string();
@@ -18,6 +18,11 @@ pub fn text() -> String {
     for hygiene in tables::HYGIENE_ROWS {
         text += &hygiene_text(&hygiene);
     }
+    text += &format!("\nPolymer rows, kind 8: usage on site Q in t per year by user, {}; - is none\n", processes());
+    for polymer in tables::POLYMER_ROWS {
+        text += &polymer_text(&polymer);
+    }
+    text += &format!("     Note: {}\n", tables::PLASTICS_NOTE);
     text += "\nOther defaults of the equations\n";
     for (kinds, meaning, default) in tables::CONSTANTS {
         text += &format!("  kind {kinds:<5}{:<7}{meaning}  [{}]\n", default.decimal, default.source);
@@ -50,6 +55,20 @@ fn hygiene_text(hygiene: &HygieneRow) -> String {
     format!("  {row}  {name:<23}G {g:<6}M {m:<6}H {h:<6}[{source}]\n")
 }
 
+/// The processes with the users that name them.
+fn processes() -> String {
+    let named = (1..).zip(PROCESSES).map(|(user, process)| format!("{user} {process}"));
+    named.collect::<Vec<_>>().join(", ")
+}
+
+/// A usage that the table does not have is a dash.
+fn polymer_text(polymer: &PolymerRow) -> String {
+    let PolymerRow { row, name, usages } = polymer;
+    let [open, partially_open, closed] = usages.map(|usage| usage.map_or("-", |usage| usage.decimal));
+    let source = usages.iter().flatten().map(|usage| usage.source).next().unwrap_or("");
+    format!("  {row:<3}{name:<23}1 {open:<6}2 {partially_open:<6}3 {closed:<6}[{source}]\n")
+}
+
 pub fn json() -> Json {
     let documents = tables::DOCUMENTS.iter().map(|(number, title)| (number.to_string(), Json::from(*title)));
     let constants = tables::CONSTANTS.iter().map(|(kinds, meaning, default)| {
@@ -73,8 +92,10 @@ pub fn json() -> Json {
         ("documents", Json::Object(documents.collect())),
         ("city", Json::list(tables::CITY_ROWS.iter().map(city_json))),
         ("hygiene", Json::list(tables::HYGIENE_ROWS.iter().map(hygiene_json))),
+        ("polymers", Json::list(tables::POLYMER_ROWS.iter().map(polymer_json))),
         ("constants", Json::list(constants)),
         ("suggestions", Json::list(suggestions)),
+        ("polymers_note", Json::from(tables::PLASTICS_NOTE)),
     ])
 }
 
@@ -99,6 +120,18 @@ fn hygiene_json(hygiene: &HygieneRow) -> Json {
         ("M", default_json(&hygiene.uses)),
         ("H", default_json(&hygiene.share)),
     ])
+}
+
+/// A process without usage is left out.
+fn polymer_json(polymer: &PolymerRow) -> Json {
+    let usages = (1u8..).zip(PROCESSES).zip(&polymer.usages).filter_map(|((user, process), usage)| {
+        Some(Json::object([
+            ("user", Json::from(user)),
+            ("process", Json::from(process)),
+            ("Q", default_json(usage.as_ref()?)),
+        ]))
+    });
+    Json::object([("row", Json::from(polymer.row)), ("name", Json::from(polymer.name)), ("usages", Json::list(usages))])
 }
 
 fn default_json(default: &DefaultValue) -> Json {

@@ -23,7 +23,7 @@ pub fn case_text(case: &Case, typed: Option<&Typed>, exact: bool) -> String {
     line("row", case.row.to_string(), row_name(case.kind, case.row));
     line("route", case.route.to_string(), route_name(case.route));
     if case.user != 0 {
-        line("user", case.user.to_string(), user_name(case.user));
+        line("user", case.user.to_string(), ranges::user_meaning(case.kind, case.user));
     }
     if case.count != 0 {
         line("T", case.count.to_string(), ranges::count_meaning(case.kind));
@@ -86,6 +86,7 @@ fn row_name(kind: u8, row: u8) -> &'static str {
     match (kind, row) {
         (1..=3, 1..) => tables::city_row(row).map_or("", |city| city.name),
         (6, 1..) => tables::hygiene_row(row).map_or("", |hygiene| hygiene.name),
+        (8, _) => tables::polymer_row(row).map_or("", |polymer| polymer.name),
         (4 | 7, 1) => "defaults of the document",
         (_, 0) => "values of the case",
         _ => "",
@@ -96,14 +97,6 @@ fn route_name(route: u8) -> &'static str {
     match route {
         1 => "to the sewage treatment plant (STP)",
         2 => "to surface water, by the rain sewer",
-        _ => "",
-    }
-}
-
-fn user_name(user: u8) -> &'static str {
-    match user {
-        1 => "professional",
-        2 => "not professional",
         _ => "",
     }
 }

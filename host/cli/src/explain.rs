@@ -80,9 +80,13 @@ fn with_decimal(value: &Ratio) -> String {
     }
 }
 
-/// What must be known of the row's numbers.
+/// What must be known of the kind's and the row's numbers.
 fn note(sheet: &Sheet) -> Option<&'static str> {
-    matches!(sheet.case.kind, 2 | 3).then(|| tables::volume_note(sheet.case.row)).flatten()
+    match sheet.case.kind {
+        2 | 3 => tables::volume_note(sheet.case.row),
+        8 => Some(tables::PLASTICS_NOTE),
+        _ => None,
+    }
 }
 
 /// A line for each factor: sign, symbol, exact value, meaning, source. A symbol that is the value itself is left out.

@@ -42,7 +42,7 @@ fn entry(typed: &str, meaning: &str, column: usize) -> String {
 
 pub fn statuses() -> String {
     let statuses = STATUSES.iter().map(|(status, meaning)| entry(&status.to_string(), meaning, 6));
-    let refusals = "Exit status: 0, or a refusal's number (1 to 12, 21 to 24; csorvelin help refusals), or\n";
+    let refusals = "Exit status: 0, or a refusal's number (1 to 12, 21 to 24, 31; csorvelin help refusals), or\n";
     refusals.to_string() + &statuses.collect::<String>()
 }
 
@@ -79,35 +79,46 @@ pub fn refusals() -> String {
     let refusals: String = refusals.collect();
     format!(
         "Refusals, which are exit statuses too. The first that holds is told, in this order:\n\
-         work-out, explain and case look for 1 to 11; file and import for 1 to 11, 21, 22, 23; show,\n\
-         export and explain of a record for 21, 24; worst for 12, 21, 24; list and verify for 21. A\n\
-         refusal gives no figure and no load, and changes no byte of the archive.\n\n{refusals}"
+         work-out, explain and case look for 1 to 5, 31, 6 to 11; file and import for the same, then 21,\n\
+         22, 23; show, export and explain of a record for 21, 24; worst for 12, 21, 24; list and verify\n\
+         for 21. A refusal gives no figure and no load, and changes no byte of the archive.\n\n{refusals}"
     )
 }
 
 /// The kinds: equation, rows, routes, and a line for each field that they carry.
 pub fn kinds() -> String {
-    let kinds: Vec<String> = (1..=7).map(kind).collect();
+    let kinds: Vec<String> = ranges::KINDS.map(kind).collect();
     kinds.join("\n") + "\nLimits are inclusive. csorvelin defaults prints what the rows from 1 on stand for.\n"
 }
 
 fn kind(kind: u8) -> String {
     let (equation, source) = equations::equation(kind);
     let rows = ranges::rows(kind);
-    let rows = if *rows.end() == 0 { "row 0".to_string() } else { format!("rows 0 to {}", rows.end()) };
+    let (first, last) = (*rows.start(), *rows.end());
+    let rows = if first == last { format!("row {first}") } else { format!("rows {first} to {last}") };
     let mut text = format!("kind {kind}: {}\n", ranges::KIND_NAMES[usize::from(kind) - 1]);
-    text += &format!("  {equation}\n  [{source}]\n  {rows}; {}\n", routes_and_users(kind));
-    let counts = ranges::counts(kind, 0);
-    if *counts.end() > 0 {
-        let meaning = ranges::count_meaning(kind);
-        text += &format!("  T  {meaning}, {} to {}, row 0 only\n", counts.start(), counts.end());
+    text += &format!("  {equation}\n  [{source}]\n  {rows}; {}\n", routes(kind));
+    let users = ranges::users(kind);
+    if *users.end() > 0 {
+        text += &format!("  user  {}\n", ranges::named_users(kind, users));
     }
-    let elsewhere = ranges::listed(kind, 1);
-    for listed in ranges::listed(kind, 0) {
-        let only = if elsewhere.contains(&listed) { "" } else { ", row 0 only" };
+    // What the first row takes and the last does not, only row 0 takes.
+    let only = |elsewhere: bool| if elsewhere { "" } else { ", row 0 only" };
+    let counts = ranges::counts(kind, first);
+    if *counts.end() > 0 {
+        let (meaning, only) = (ranges::count_meaning(kind), only(ranges::counts(kind, last) == counts));
+        text += &format!("  T  {meaning}, {} to {}{only}\n", counts.start(), counts.end());
+    }
+    let elsewhere = ranges::listed(kind, last);
+    for listed in ranges::listed(kind, first) {
+        let only = only(elsewhere.contains(&listed));
         let unit = if listed.unit.is_empty() { String::new() } else { format!(" {}", listed.unit) };
         let name = QUANTITIES[listed.index];
         text += &format!("  {name}  {}, 0 to {}{unit}{only}\n", listed.meaning, listed.limit);
+    }
+    match ranges::summed(kind) {
+        ([], _) => {}
+        (_, sum) => text += &format!("  {sum}  {}\n", ranges::SUM_LIMIT),
     }
     for remark in scope(kind) {
         text += &format!("  {remark}\n");
@@ -125,14 +136,19 @@ fn scope(kind: u8) -> &'static [&'static str] {
             DOWNTOWN,
             "B is for brush and roller; spraying loses 0.1 + 0.2 (000, Table 17, l. 1074–1075) and is not covered.",
         ],
+        8 => &[
+            "Q is the usage on site of the row's polymer in the process that user names; without one it is refused (31).",
+            "The usages are UK data, \"probably not representative for all of the EU\" (004, l. 244).",
+            "b and c are totals over handling, compounding and conversion at the site (004, l. 432–433, 449).",
+            "Default fractions for these by particle size, volatility and process: 004, 4.3.4, l. 523–587.",
+        ],
         _ => &[],
     }
 }
 
-fn routes_and_users(kind: u8) -> &'static str {
+fn routes(kind: u8) -> &'static str {
     match kind {
-        1 | 2 => "route 1 (STP), in rows 0 and 3 to 7 also 2 (surface water)",
-        3 => "route 1 (STP), in rows 0 and 3 to 7 also 2 (surface water); user 1 (professional) or 2 (not)",
+        1..=3 => "route 1 (STP), in rows 0 and 3 to 7 also 2 (surface water)",
         _ => "route 1 (STP)",
     }
 }

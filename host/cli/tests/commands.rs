@@ -143,7 +143,7 @@ Checked: the library and the model give the same four figures.
 #[test]
 fn sheets_of_every_kind_name_the_exact_fraction() {
     let place = Place::new("explain_kinds");
-    let sheets: [(&[&str], &str); 8] = [
+    let sheets: [(&[&str], &str); 10] = [
         (&["kind=2", "row=3", "a=0.015625", "c=1"], "= 875/584 (= 1.4982876712328767…) kg per day\n"),
         (&["kind=3", "row=3", "user=1", "a=0.015625"], "= 61523437 + 1/2 µg per day (= 61523437.5), rounded up\n"),
         (&["kind=3", "row=7", "user=2", "a=0.015625"], "= 145468750 µg per day, a whole number\n"),
@@ -152,6 +152,11 @@ fn sheets_of_every_kind_name_the_exact_fraction() {
         (&["kind=7", "row=1", "a=0.03125", "b=0.25", "c=1", "e=1"], "= 125/24 (= 5.2083333333333333…) kg per day\n"),
         (&["kind=5", "T=250", "a=16", "b=0.125", "c=0.5", "d=0.25", "e=0.125"], "= 2 kg per day\n"),
         (&["kind=1", "row=0", "T=31", "a=1", "b=1", "c=1", "d=1"], "= 8000/31 (= 258.06451612903225…) kg per day\n"),
+        (
+            &["kind=8", "row=18", "user=3", "T=366", "a=1", "b=0", "c=1"],
+            "= 40000/183 (= 218.57923497267759…) kg per day\n",
+        ),
+        (&["kind=8", "row=1", "user=2", "T=250", "a=0.5", "b=0.25", "c=0.125"], "= 11550 kg per day\n"),
     ];
     for (fields, line) in sheets {
         let ran = place.run(&[&["explain", "dossier=7"], fields].concat());
@@ -182,6 +187,71 @@ fn sheets_say_what_no_document_prints() {
     }
 }
 
+/// Plastics: two emissions, the usage with its line, and what must be known of it.
+#[test]
+fn the_sheet_of_plastics() {
+    let place = Place::new("explain_plastics");
+    let ldpe = ["kind=8", "row=1", "user=2", "T=250", "dossier=7", "a=0.5", "b=0.25", "c=0.125"];
+    let ran = place.run(&with("explain", &ldpe));
+    let expected = "\
+kind     8  plastics makers, by site
+row      1  LDPE
+route    1  to the sewage treatment plant (STP)
+user     2  partially open process
+T        250  emission days per year
+dossier  7
+a        0.5 (0x3fe0000000000000)  active fraction of the plastic
+b        0.25 (0x3fd0000000000000)  fraction to air
+c        0.125 (0x3fc0000000000000)  fraction to water
+equation E = Q·1000·a·b/T to air, Q·1000·a·c/T to water  (kg per day)
+         [004, 4.3.1, Table 4.4, l. 442–443, with TONNAGE = Q·1000/T (notes 1, 4, l. 445, 451)]
+
+To the sewage treatment plant (STP):
+    Q     23100  usage on site, partially open process, t per year  [004, 3.3, Table 3.1, l. 250]
+  ×       1000   kilograms in a tonne  [in no document; from Q in tonnes per year (004, 3.3, Table
+         3.1, l. 248) and TONNAGE in kg per day (4.3.1, Table 4.4, l. 421)]
+  × a     0.5    active fraction of the plastic  [case]
+  × c     0.125  fraction to water  [case]
+  / T     250    T, emission days per year  [case]
+  = 5775 kg per day
+  = 5775000000000 µg per day, a whole number
+  figure 5775000000000 µg per day = 5775000000.000 mg = 5775.000000000 kg
+
+To surface water: no equation, figure 0
+
+To air:
+    Q     23100  usage on site, partially open process, t per year  [004, 3.3, Table 3.1, l. 250]
+  ×       1000   kilograms in a tonne  [in no document; from Q in tonnes per year (004, 3.3, Table
+         3.1, l. 248) and TONNAGE in kg per day (4.3.1, Table 4.4, l. 421)]
+  × a     0.5    active fraction of the plastic  [case]
+  × b     0.25   fraction to air  [case]
+  / T     250    T, emission days per year  [case]
+  = 11550 kg per day
+  = 11550000000000 µg per day, a whole number
+  figure 11550000000000 µg per day = 11550000000.000 mg = 11550.000000000 kg
+
+To soil: no equation, figure 0
+
+";
+    let (_, sheet) = ran.ends(0).out.split_once('\n').unwrap();
+    let (sheet, behind) = sheet.split_at(sheet.find("Note: ").unwrap());
+    assert_eq!(sheet, expected);
+    let behind = behind.replace("\n         ", " ");
+    let said = [
+        "\"probably not representative for all of the EU\" (004, l. 244)",
+        "totals over handling, compounding and conversion at one site (l. 432–433)",
+        "at separate sites, conversion counts as 0 at the first, handling and compounding at the second (l. 449)",
+        "default fractions by particle size, volatility and process in 4.3.4 (l. 523–587)",
+        "\n004  Supplement to the methodology for risk evaluation of biocides, ",
+    ];
+    for part in said {
+        assert!(behind.contains(part), "{part}\n{behind}");
+    }
+    assert!(!behind.contains("\n002  "), "a document that the sheet does not name\n{behind}");
+    let json = place.run(&[&["explain", "--json"], &ldpe[..]].concat());
+    assert!(json.ends(0).out.contains("probably not representative"), "{}", json.out);
+}
+
 /// Row 7's volume is for another area than row 7's: said wherever the two are multiplied.
 #[test]
 fn row_7_is_said_to_be_low() {
@@ -207,16 +277,16 @@ fn row_7_is_said_to_be_low() {
 fn refusals_name_the_field_and_what_is_allowed() {
     let place = Place::new("refusals");
     place.write("short", &[4; 63]);
-    let refusals: [(&[&str], i32, &str, &str); 17] = [
+    let refusals: [(&[&str], i32, &str, &str); 25] = [
         (&["--case", "short"], 1, "63 bytes", "exactly 64 bytes"),
-        (&["kind=8"], 2, "8", "1 to 7"),
+        (&["kind=9"], 2, "9", "1 to 8"),
         (&["kind=6", "row=6"], 3, "6", "0 to 5 for kind 6"),
         (&["kind=2", "row=2", "route=2"], 4, "2", "1 (to the STP) only for kind 2 row 2"),
         (&["kind=3", "row=3"], 5, "0 (not given)", "1 (professional) or 2 (not professional) for kind 3"),
         (&["kind=1", "row=0", "T=30"], 6, "30", "31 to 36500 for kind 1 row 0 (service life in days)"),
         (&["kind=4", "row=1"], 7, "0 (not given)", "1 or more"),
         (&["kind=4", "row=1", "dossier=0"], 7, "0", "1 or more"),
-        (&["row=1"], 2, "0 (not given)", "1 to 7"),
+        (&["row=1"], 2, "0 (not given)", "1 to 8"),
         (&["kind=4", "a=100"], 6, "0 (not given, nor is row, which counts as 0)", "1 to 366 for kind 4 row 0"),
         (&["kind=4", "T=367"], 6, "367 (row is not given and counts as 0)", "1 to 366 for kind 4 row 0"),
         (&["kind=4", "row=1", "dossier=7", "f=-0"], 8, "-0 (0x8000000000000000), its sign bit is set", "a finite"),
@@ -230,6 +300,29 @@ fn refusals_name_the_field_and_what_is_allowed() {
         (&["kind=2", "row=3", "dossier=7", "b=1"], 9, "1", "zero: kind 2 row 3 carries a, c and no other quantity"),
         (&["kind=7", "row=1", "dossier=7", "c=5.5"], 10, "5.5", "0 to 5 kg per litre for kind 7 (density)"),
         (&["kind=5", "T=1", "dossier=7", "c=0.75", "d=0.5"], 11, "1.25", "at most 1"),
+        (&["kind=8", "user=3"], 3, "0 (not given)", "1 to 18 for kind 8\n"),
+        (&["kind=8", "row=1", "user=2", "route=2"], 4, "2", "1 (to the STP) only for kind 8 row 1\n"),
+        (
+            &["kind=8", "row=1"],
+            5,
+            "0 (not given)",
+            "1 (open process), 2 (partially open process) or 3 (closed process) for kind 8\n",
+        ),
+        (
+            &["kind=8", "row=1", "user=1"],
+            31,
+            "1 (open process)",
+            "2 (partially open process) or 3 (closed process) for kind 8 row 1 (LDPE)\n",
+        ),
+        (
+            &["kind=8", "row=16", "user=2", "T=1"],
+            31,
+            "2 (partially open process)",
+            "3 (closed process) for kind 8 row 16 (Phenolic resins)\n",
+        ),
+        (&["kind=8", "row=6", "user=1"], 6, "0 (not given)", "1 to 366 for kind 8 row 6 (emission days per year)\n"),
+        (&["kind=8", "row=6", "user=1", "T=1", "dossier=7", "d=1"], 9, "1", "zero: kind 8 row 6 carries a, b, c and"),
+        (&["kind=8", "row=6", "user=1", "T=1", "dossier=7", "b=0.75", "c=0.5"], 11, "1.25", "at most 1"),
     ];
     for (fields, number, found, allowed) in refusals {
         for command in ["work-out", "explain", "case"] {
@@ -287,6 +380,14 @@ fn defaults_and_help() {
     for part in ["5.57", "list of advised defaults, l. 112", "0.71", "l. 2020", "version 6, 12 November 2015", "260"] {
         assert!(defaults.ends(0).out.contains(part), "{part}");
     }
+    for polymer in [
+        "\n  1  LDPE                   1 -     2 23100 3 528   [004, 3.3, Table 3.1, l. 250]\n",
+        "\n  6  Polystyrene            1 605   2 389   3 623   [004, 3.3, Table 3.1, l. 255]\n",
+        "\n  18 Epoxy resins           1 -     2 -     3 80    [004, 3.3, Table 3.1, l. 267]\n",
+    ] {
+        assert!(defaults.out.contains(polymer), "{polymer}{}", defaults.out);
+    }
+    assert_eq!(defaults.out.matches("probably not representative for all of the EU").count(), 1);
     for words in [&["help"][..], &["--help"], &["-h"]] {
         let help = place.run(words);
         for command in COMMANDS {
@@ -308,9 +409,27 @@ fn defaults_and_help() {
         "spraying loses 0.1 + 0.2 (000, Table 17, l. 1074–1075) and is not covered",
         "The city is paved downtown only (001, l. 66–69)",
         "A share below 1 needs tonnage data (001, l. 107–108)",
+        "\n  user  1 (professional) or 2 (not professional)\n",
+        "\n  (c + d) + e  at most 1, each addition rounded in binary64\n",
+        "\n  rows 0 to 5; route 1 (STP)\n",
+        "\n  T  emission days per year, 1 to 366, row 0 only\n",
     ];
     for part in parts {
         assert!(kinds.ends(0).out.contains(part), "{part}\n{}", kinds.out);
+    }
+    let (_, plastics) = kinds.out.split_once("\nkind 8: plastics makers, by site\n").unwrap();
+    let fields = "\
+  rows 1 to 18; route 1 (STP)
+  user  1 (open process), 2 (partially open process) or 3 (closed process)
+  T  emission days per year, 1 to 366
+  a  active fraction of the plastic, 0 to 1
+  b  fraction to air, 0 to 1
+  c  fraction to water, 0 to 1
+  b + c  at most 1, each addition rounded in binary64
+";
+    assert!(plastics.contains(fields) && !plastics.contains("row 0 only"), "{plastics}");
+    for part in ["refused (31)", "004, l. 244", "004, l. 432–433, 449", "004, 4.3.4, l. 523–587"] {
+        assert!(plastics.contains(part), "{part}\n{plastics}");
     }
     for words in [&["help", "--json"][..], &["help", "kinds", "--json"], &["new", "--help", "--json"]] {
         let ran = place.run(words);

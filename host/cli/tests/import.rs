@@ -27,7 +27,7 @@ fn files_folders_and_csv_are_filed_in_the_order_given() {
     let cases = of_every_row(1, &mut Random::new(411));
     place.write("archive", &archive_with(&[held]));
     place.write("z.case", &cases[0].encode());
-    place.write("a", &cases[34].encode());
+    place.write("a", &cases[52].encode());
     place.write("table.csv", csv(&cases[7..20]).as_bytes());
     place.write("more.CSV", csv(&cases[20..22]).as_bytes());
     // By the bytes of their names, whatever these are. Hidden ones are left out.
@@ -38,8 +38,8 @@ fn files_folders_and_csv_are_filed_in_the_order_given() {
     }
     place.write("folder/.hidden", b"no case");
     let paths = ["z.case", "folder", "table.csv", "more.CSV", "-", "a"];
-    let ran = place.run_on(csv(&cases[22..34]).as_bytes(), &words(&["import", "archive"], &paths));
-    assert_eq!(ran.ends(0).out, "35 offered, 0 refused, 35 filed in archive as records 1 to 35\n");
+    let ran = place.run_on(csv(&cases[22..52]).as_bytes(), &words(&["import", "archive"], &paths));
+    assert_eq!(ran.ends(0).out, "53 offered, 0 refused, 53 filed in archive as records 1 to 53\n");
     assert_eq!(ran.err, "");
     assert!(place.read("archive") == archive_with(&[&[held], &cases[..]].concat()));
 }
@@ -213,10 +213,10 @@ fn all_good_lines_end_with_0() {
     place.write("cases.csv", csv(&cases).as_bytes());
     let before = state(&place, "archive");
     let ran = place.run(&["import", "archive", "cases.csv", "--dry-run"]);
-    assert_eq!(ran.ends(0).out, "70 offered, 0 refused, 70 would be filed in archive as records 0 to 69\n");
+    assert_eq!(ran.ends(0).out, "106 offered, 0 refused, 106 would be filed in archive as records 0 to 105\n");
     assert_eq!(state(&place, "archive"), before);
     let ran = place.run(&["import", "archive", "cases.csv", "--keep-going"]);
-    assert_eq!(ran.ends(0).out, "70 offered, 0 refused, 70 filed in archive as records 0 to 69\n");
+    assert_eq!(ran.ends(0).out, "106 offered, 0 refused, 106 filed in archive as records 0 to 105\n");
     assert!(place.read("archive") == archive_with(&cases));
 }
 

@@ -94,6 +94,54 @@ fn a_header_that_is_wrong_is_named_with_its_line() {
     assert_eq!(place.read("archive"), archive::trailer(0));
 }
 
+/// LDPE in a partially open process.
+fn ldpe() -> Case {
+    let patterns = [0.5, 0.25, 0.125, 0., 0., 0.].map(f64::to_bits);
+    Case { kind: 8, row: 1, user: 2, count: 250, patterns, ..p1() }
+}
+
+/// Plastics: the user is the process, and a polymer that has no usage for it is named with those that it has.
+#[test]
+fn plastics_from_a_table() {
+    let place = Place::new("csv_plastics");
+    let header = "kind,row,user,T,dossier,a,b,c";
+    assert_eq!(imported(&place, format!("{header}\n8,1,2,250,7,0.5,0.25,0.125\n").as_bytes()), archive_with(&[ldpe()]));
+    let lines = [
+        (
+            "8,1,1,250,8,0.5,0.25,0.125",
+            "refused 31: the polymer has no usage for this process: user: found 1 (open process), \
+             allowed 2 (partially open process) or 3 (closed process) for kind 8 row 1 (LDPE)",
+        ),
+        (
+            "8,,2,250,8,0.5,0.25,0.125",
+            "refused 3: the row is not among the kind's: row: found 0 (not given), allowed 1 to 18 for kind 8",
+        ),
+        (
+            "8,1,2,,8,0.5,0.25,0.125",
+            "refused 6: the count T is not allowed for this kind and row: T: found 0 (not given), \
+             allowed 1 to 366 for kind 8 row 1 (emission days per year)",
+        ),
+        ("8,1,2,250,8,0.5,,0.125", "not given: b (fraction to air); --blank-as-zero counts it as 0"),
+        (
+            "8,1,2,250,8,0.5,1,0.125",
+            "refused 11: the fractions to the compartments add up to more than 1: b + c: found 1.125, \
+             allowed at most 1, each addition rounded in binary64",
+        ),
+        (
+            "8,1,2,1,7,0,0,0",
+            "refused 22: the same filing is already held: kind, row, route, user, dossier: found held as record 0, \
+             allowed another kind, row, route, user or dossier: these five make a filing",
+        ),
+    ];
+    let before = place.read("archive");
+    for (line, said) in lines {
+        place.write("cases.csv", format!("{header}\n{line}\n").as_bytes());
+        let ran = place.run(&["import", "archive", "cases.csv"]);
+        assert_eq!(ran.ends(65).err, format!("cases.csv:2: {said}\n"));
+        assert_eq!(place.read("archive"), before);
+    }
+}
+
 /// Each wrong line is named by its number and why; those around it are taken where some may be left out.
 #[test]
 fn a_line_that_is_wrong_is_named_and_no_other() {
@@ -127,7 +175,7 @@ fn a_line_that_is_wrong_is_named_and_no_other() {
         (b"4,1,7,1\xe9,0,1", "the line is not UTF-8"),
         (b"4,1,7,\x1b[31m\x07,0,1", "field a: '\\u{1b}[31m\\u{7}' is neither"),
         (b"4,1,,1,0,1", "refused 7: the dossier number is 0: dossier: found 0 (not given), allowed 1 or more"),
-        (b",1,7,1,0,1", "refused 2: the kind is not one of 1 to 7: kind: found 0 (not given), allowed 1 to 7"),
+        (b",1,7,1,0,1", "refused 2: the kind is not one of 1 to 8: kind: found 0 (not given), allowed 1 to 8"),
         (
             b"4,,7,1,0,1",
             "refused 6: the count T is not allowed for this kind and row: T: found 0 (not given, nor is row,",
@@ -256,14 +304,15 @@ fn list_writes_all_fields_figures_and_exact_values() {
     let hygiene = Case { kind: 6, row: 1, dossier: u64::MAX, patterns, ..p1() };
     let leaching = Case { kind: 2, row: 3, route: 2, patterns: tiny, ..p1() };
     let toilets = Case { kind: 7, row: 0, count: 100, patterns: [0; 6], ..p1() };
-    place.write("archive", &archive_with(&[p1(), hygiene, leaching, toilets]));
+    place.write("archive", &archive_with(&[p1(), hygiene, leaching, toilets, ldpe()]));
     let exact = "0.70999999999999996447286321199499070644378662109375";
     let expected = format!(
         "record,{COLUMNS},stp,surface,air,soil,a_exact,b_exact,c_exact,d_exact,e_exact,f_exact\n\
          0,4,1,1,0,0,7,100,0,1,,,,76923077,0,0,0,100,0,1,,,\n\
          1,6,1,1,0,0,18446744073709551615,0.71,0.5,,,,,3024600000,0,0,0,{exact},0.5,,,,\n\
          2,2,3,2,0,0,7,5e-324,,0.71,,,,0,1,0,0,1/2^1074,,{exact},,,\n\
-         3,7,0,1,0,100,7,0,0,0,0,0,,0,0,0,0,0,0,0,0,0,\n"
+         3,7,0,1,0,100,7,0,0,0,0,0,,0,0,0,0,0,0,0,0,0,\n\
+         4,8,1,1,2,250,7,0.5,0.25,0.125,,,,5775000000000,0,11550000000000,0,0.5,0.25,0.125,,,\n"
     );
     assert_eq!(place.run(&["list", "archive", "--csv"]).ends(0).out, expected);
     assert_eq!(place.run_on(&place.read("archive"), &["list", "--csv", "-"]).ends(0).out, expected);

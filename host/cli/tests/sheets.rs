@@ -37,9 +37,10 @@ fn ugly_cases() -> Vec<Case> {
             for listed in ranges::listed(kind, row) {
                 case.patterns[listed.index] = UGLY.get(round).copied().unwrap_or_else(|| random.pick(&UGLY));
             }
-            if kind == 5 && ranges::refusal(&case.encode()) == 11 {
-                case.patterns[4] = 0;
-                case.patterns[3] = 1;
+            if let ([_, further @ ..], _) = ranges::summed(kind) {
+                if ranges::refusal(&case.encode()) == 11 {
+                    further.iter().for_each(|&index| case.patterns[index] = 1);
+                }
             }
             ugly.push(case);
         }
