@@ -60,13 +60,13 @@ static double typical(double limit)
     return limit * (0.25 + (double)(random64() >> 11) * 0x1p-54);
 }
 
-static void put_case(uint8_t *bytes, uint8_t kind, uint8_t row, uint32_t count, uint64_t dossier,
-                     const double quantities[6])
+static void put_case(uint8_t *bytes, uint8_t kind, uint8_t row, uint8_t user, uint32_t count,
+                     uint64_t dossier, const double quantities[6])
 {
     bytes[0] = kind;
     bytes[1] = row;
     bytes[2] = 1;
-    bytes[3] = kind == 3;
+    bytes[3] = user;
     memcpy(bytes + 4, &count, 4);
     memcpy(bytes + 8, &dossier, 8);
     memcpy(bytes + 16, quantities, 48);
@@ -92,23 +92,24 @@ static void report(const char *call, const char *input, double library, double p
 
 struct input {
     const char *name;
-    uint8_t kind, row;
+    uint8_t kind, row, user;
     uint32_t count;
     double limits[6];
 };
 
 static const struct input inputs[] = {
-    {"kind 1, row 0", 1, 0, 3650, {100, 100, 1, 1000}},
-    {"kind 1, row 3", 1, 3, 0, {100, 100, 1}},
-    {"kind 2, row 0", 2, 0, 3650, {1, 0, 1, 1000, 100, 5000}},
-    {"kind 2, row 3", 2, 3, 0, {1, 0, 1}},
-    {"kind 3, row 0", 3, 0, 3, {1, 0, 0, 1000, 100, 5000}},
-    {"kind 3, row 3", 3, 3, 0, {1}},
-    {"kind 4, row 1", 4, 1, 0, {1000000, 1, 1}},
-    {"kind 5, row 0", 5, 0, 250, {1000000, 1, 0.4, 0.4, 0.4}},
-    {"kind 6, row 0", 6, 0, 0, {1, 1, 0, 10000, 100, 1}},
-    {"kind 6, row 1", 6, 1, 0, {1, 1}},
-    {"kind 7, row 1", 7, 1, 0, {1, 1, 5, 1, 1}},
+    {"kind 1, row 0", 1, 0, 0, 3650, {100, 100, 1, 1000}},
+    {"kind 1, row 3", 1, 3, 0, 0, {100, 100, 1}},
+    {"kind 2, row 0", 2, 0, 0, 3650, {1, 0, 1, 1000, 100, 5000}},
+    {"kind 2, row 3", 2, 3, 0, 0, {1, 0, 1}},
+    {"kind 3, row 0", 3, 0, 1, 3, {1, 0, 0, 1000, 100, 5000}},
+    {"kind 3, row 3", 3, 3, 1, 0, {1}},
+    {"kind 4, row 1", 4, 1, 0, 0, {1000000, 1, 1}},
+    {"kind 5, row 0", 5, 0, 0, 250, {1000000, 1, 0.4, 0.4, 0.4}},
+    {"kind 6, row 0", 6, 0, 0, 0, {1, 1, 0, 10000, 100, 1}},
+    {"kind 6, row 1", 6, 1, 0, 0, {1, 1}},
+    {"kind 7, row 1", 7, 1, 0, 0, {1, 1, 5, 1, 1}},
+    {"kind 8, row 1", 8, 1, 2, 250, {1, 0.6, 0.6}},
 };
 
 enum { CASES = 256, PASSES = 8, KINDS = sizeof inputs / sizeof *inputs };
@@ -122,7 +123,7 @@ static void make_cases(const struct input *in, bool smallest)
         double q[6];
         for (int j = 0; j < 6; j++)
             q[j] = in->limits[j] == 0 ? 0 : smallest ? 0x1p-1074 : typical(in->limits[j]);
-        put_case(cases[i], in->kind, in->row, in->count, (uint64_t)i + 1, q);
+        put_case(cases[i], in->kind, in->row, in->user, in->count, (uint64_t)i + 1, q);
     }
 }
 
@@ -189,7 +190,7 @@ static uint64_t fill(uint64_t n)
     for (uint64_t k = 0; k < n; k++) {
         uint8_t *record = archive + CSORVELIN_RECORD_SIZE * k;
         uint64_t figures[4];
-        put_case(record, 4, 1, 0, k + 1, (const double[6]){typical(1000000), typical(1), typical(1)});
+        put_case(record, 4, 1, 0, 0, k + 1, (const double[6]){typical(1000000), typical(1), typical(1)});
         if (csorvelin_work_out(record, CSORVELIN_CASE_SIZE, figures) != 0)
             fail("a case of the archive is refused");
         memcpy(record + CSORVELIN_CASE_SIZE, figures, sizeof figures);
@@ -242,7 +243,7 @@ static void bench_scans(uint64_t records)
 
     /* the filing that makes it so many records */
     uint64_t used = fill(records - 1);
-    put_case(fresh, 4, 1, 0, UINT64_MAX, (const double[6]){typical(1000000), typical(1), typical(1)});
+    put_case(fresh, 4, 1, 0, 0, UINT64_MAX, (const double[6]){typical(1000000), typical(1), typical(1)});
     for (int r = 0; r < SCAN_ROUNDS; r++) {
         library[r] = time_of_file(csorvelin_file, used, fresh, times);
         peer[r] = time_of_file(peer_file, used, fresh, times);

@@ -10,7 +10,7 @@
 void peer_start(void);
 uint32_t peer_work_out(const uint8_t *case_bytes, size_t case_len, uint64_t figures[4]);
 
-/* File and worst in plain C. File takes refusals 1 to 11 and the figures from csorvelin_work_out, so that
+/* File and worst in plain C. File takes the refusals and the figures of a case from csorvelin_work_out, so that
  * peer and library differ in the test of the trailer, the scan and the writing only. */
 uint32_t peer_file(uint8_t *archive, size_t size, uint64_t *used, const uint8_t *case_bytes,
                    size_t case_len, uint64_t *number);

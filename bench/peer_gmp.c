@@ -15,19 +15,31 @@ struct range {
 };
 
 struct kind {
-    struct range rows, users, own_count;
-    double own_limits[QUANTITIES]; /* row 0; 0 for an unlisted quantity */
+    struct range rows, users;
+    struct range own_count, row_count; /* in row 0, in the others */
+    double own_limits[QUANTITIES];     /* row 0; 0 for an unlisted quantity */
     double row_limits[QUANTITIES];
 };
 
-static const struct kind kinds[8] = {
-    [1] = {{0, 7}, {0, 0}, {31, 36500}, {100, 100, 1, 1000}, {100, 100, 1}},
-    [2] = {{0, 7}, {0, 0}, {31, 36500}, {1, 0, 1, 1000, 100, 5000}, {1, 0, 1}},
-    [3] = {{0, 7}, {1, 2}, {1, 100}, {1, 0, 0, 1000, 100, 5000}, {1}},
-    [4] = {{0, 1}, {0, 0}, {1, 366}, {1000000, 1, 1}, {1000000, 1, 1}},
-    [5] = {{0, 0}, {0, 0}, {1, 366}, {1000000, 1, 1, 1, 1}, {0}},
-    [6] = {{0, 5}, {0, 0}, {0, 0}, {1, 1, 0, 10000, 100, 1}, {1, 1}},
-    [7] = {{0, 1}, {0, 0}, {1, 100}, {1, 1, 5, 1, 1}, {1, 1, 5, 1, 1}},
+static const struct kind kinds[9] = {
+    [1] = {{0, 7}, {0, 0}, {31, 36500}, {0, 0}, {100, 100, 1, 1000}, {100, 100, 1}},
+    [2] = {{0, 7}, {0, 0}, {31, 36500}, {0, 0}, {1, 0, 1, 1000, 100, 5000}, {1, 0, 1}},
+    [3] = {{0, 7}, {1, 2}, {1, 100}, {0, 0}, {1, 0, 0, 1000, 100, 5000}, {1}},
+    [4] = {{0, 1}, {0, 0}, {1, 366}, {0, 0}, {1000000, 1, 1}, {1000000, 1, 1}},
+    [5] = {{0, 0}, {0, 0}, {1, 366}, {0, 0}, {1000000, 1, 1, 1, 1}, {0}},
+    [6] = {{0, 5}, {0, 0}, {0, 0}, {0, 0}, {1, 1, 0, 10000, 100, 1}, {1, 1}},
+    [7] = {{0, 1}, {0, 0}, {1, 100}, {0, 0}, {1, 1, 5, 1, 1}, {1, 1, 5, 1, 1}},
+    [8] = {{1, 18}, {1, 3}, {0, 0}, {1, 366}, {0}, {1, 1, 1}},
+};
+
+/* Tonnes per year of a polymer by process, 1 to 3; 0 where there is no usage. */
+static const uint16_t usages[19][4] = {
+    [1] = {0, 0, 23100, 528}, [2] = {0, 0, 2070, 2130},  [3] = {0, 0, 8880, 1610},
+    [4] = {0, 988, 0, 2010},  [5] = {0, 744, 3990, 341}, [6] = {0, 605, 389, 623},
+    [7] = {0, 0, 0, 2790},    [8] = {0, 78, 0, 428},     [9] = {0, 176, 0, 814},
+    [10] = {0, 39, 0, 181},   [11] = {0, 55, 207, 28},   [12] = {0, 0, 52, 84},
+    [13] = {0, 0, 62, 69},    [14] = {0, 0, 0, 804},     [15] = {0, 575, 0, 206},
+    [16] = {0, 0, 0, 121},    [17] = {0, 0, 0, 469},     [18] = {0, 0, 0, 80},
 };
 
 static inline bool within(struct range r, uint32_t x)
@@ -63,6 +75,8 @@ static uint32_t refusal_of_quantities(const struct decoded *c)
         return 10;
     if (c->kind == 5 && !(c->values[2] + c->values[3] + c->values[4] <= 1))
         return 11;
+    if (c->kind == 8 && !(c->values[1] + c->values[2] <= 1))
+        return 11;
     return 0;
 }
 
@@ -79,7 +93,7 @@ static uint32_t decode(struct decoded *c, const uint8_t *bytes, size_t length)
     memcpy(&dossier, bytes + 8, 8);
     memcpy(c->patterns, bytes + 16, sizeof c->patterns);
     memcpy(c->values, bytes + 16, sizeof c->values);
-    if (c->kind < 1 || c->kind > 7)
+    if (c->kind < 1 || c->kind > 8)
         return 2;
     const struct kind *k = &kinds[c->kind];
     if (!within(k->rows, c->row))
@@ -89,7 +103,9 @@ static uint32_t decode(struct decoded *c, const uint8_t *bytes, size_t length)
         return 4;
     if (!within(k->users, c->user))
         return 5;
-    if (c->row ? c->count != 0 : !within(k->own_count, c->count))
+    if (c->kind == 8 && usages[c->row][c->user] == 0)
+        return 31;
+    if (!within(c->row ? k->row_count : k->own_count, c->count))
         return 6;
     if (dossier == 0)
         return 7;
@@ -272,6 +288,18 @@ static uint64_t toilets_up(const struct decoded *c)
     return finished((struct constant){2000000000000 * (c->row ? 1 : c->count), 3});
 }
 
+static void plastics_up(const struct decoded *c, uint64_t figures[4])
+{
+    const uint64_t *p = c->patterns;
+    start(p[0]);
+    mpz_mul_ui(chain, chain, 1000000000000 * usages[c->row][c->user]);
+    for (int i = 0; i < 2; i++) {
+        struct dyadic q = split(p[2 - i]); /* c to water, b to air */
+        mpz_mul_ui(branch, chain, q.significand);
+        figures[2 * i] = rounded_up(branch, depth + q.depth, c->count);
+    }
+}
+
 uint32_t peer_work_out(const uint8_t *case_bytes, size_t case_len, uint64_t figures[4])
 {
     struct decoded c;
@@ -287,7 +315,8 @@ uint32_t peer_work_out(const uint8_t *case_bytes, size_t case_len, uint64_t figu
     case 4: *water = sanitary_up(&c); break;
     case 5: formulation_up(&c, figures); break;
     case 6: *water = hygiene_up(&c); break;
-    default: *water = toilets_up(&c); break;
+    case 7: *water = toilets_up(&c); break;
+    case 8: plastics_up(&c, figures); break;
     }
     return 0;
 }
