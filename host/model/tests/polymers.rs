@@ -24,6 +24,20 @@ fn every_cell_is_the_printed_one() {
     assert_eq!(held, 34);
 }
 
+/// docs/FORMAT.md, from which a figure is worked again without the software, has the table too.
+#[test]
+fn the_format_page_has_the_printed_table() {
+    let page = include_str!("../../../docs/FORMAT.md").lines();
+    let lines = page.skip_while(|line| !line.starts_with("| row | polymer |")).skip(2);
+    let lines: Vec<&str> = lines.take_while(|line| line.starts_with('|')).collect();
+    let expected = (1..).zip(polymers()).map(|(row, Polymer { name, usages, .. })| {
+        let [open, partially_open, closed] =
+            usages.map(|cell| cell.map_or("–".to_string(), |usage| usage.to_string()));
+        format!("| {row} | {name} | {open} | {partially_open} | {closed} |")
+    });
+    assert_eq!(lines, expected.collect::<Vec<_>>());
+}
+
 #[test]
 fn there_is_no_usage_beside_the_table() {
     for (row, process) in [(0, 3), (19, 3), (255, 3), (6, 0), (6, 4), (6, 255)] {
