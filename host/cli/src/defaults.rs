@@ -1,6 +1,7 @@
 //! The default tables with their sources.
 
 use crate::json::Json;
+use csorvelin_model::ranges;
 use csorvelin_model::tables::{self, CityRow, DefaultValue, HygieneRow, PolymerRow, PROCESSES};
 
 pub fn text() -> String {
@@ -18,7 +19,8 @@ pub fn text() -> String {
     for hygiene in tables::HYGIENE_ROWS {
         text += &hygiene_text(&hygiene);
     }
-    text += &format!("\nPolymer rows, kind 8: usage on site Q in t per year by user, {}; - is none\n", processes());
+    let processes = ranges::named_users(8, ranges::users(8));
+    text += &format!("\nPolymer rows, kind 8: usage on site Q in t per year by user, {processes}; - is none\n");
     for polymer in tables::POLYMER_ROWS {
         text += &polymer_text(&polymer);
     }
@@ -53,12 +55,6 @@ fn hygiene_text(hygiene: &HygieneRow) -> String {
     let HygieneRow { row, name, grams, uses, share } = hygiene;
     let (g, m, h, source) = (grams.decimal, uses.decimal, share.decimal, grams.source);
     format!("  {row}  {name:<23}G {g:<6}M {m:<6}H {h:<6}[{source}]\n")
-}
-
-/// The processes with the users that name them.
-fn processes() -> String {
-    let named = (1..).zip(PROCESSES).map(|(user, process)| format!("{user} {process}"));
-    named.collect::<Vec<_>>().join(", ")
 }
 
 /// A usage that the table does not have is a dash.

@@ -137,7 +137,7 @@ fn scope(kind: u8) -> &'static [&'static str] {
             "B is for brush and roller; spraying loses 0.1 + 0.2 (000, Table 17, l. 1074–1075) and is not covered.",
         ],
         8 => &[
-            "Q is the usage on site of the row's polymer in the process that user names; without one it is refused (31).",
+            "Q is the usage on site of the row's polymer in the process that user names; 31 where it has none.",
             "The usages are UK data, \"probably not representative for all of the EU\" (004, l. 244).",
             "b and c are totals over handling, compounding and conversion at the site (004, l. 432–433, 449).",
             "Default fractions for these by particle size, volatility and process: 004, 4.3.4, l. 523–587.",

@@ -428,7 +428,7 @@ fn defaults_and_help() {
   b + c  at most 1, each addition rounded in binary64
 ";
     assert!(plastics.contains(fields) && !plastics.contains("row 0 only"), "{plastics}");
-    for part in ["refused (31)", "004, l. 244", "004, l. 432–433, 449", "004, 4.3.4, l. 523–587"] {
+    for part in ["31 where it has none", "004, l. 244", "004, l. 432–433, 449", "004, 4.3.4, l. 523–587"] {
         assert!(plastics.contains(part), "{part}\n{plastics}");
     }
     for words in [&["help", "--json"][..], &["help", "kinds", "--json"], &["new", "--help", "--json"]] {

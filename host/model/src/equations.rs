@@ -100,7 +100,7 @@ fn sheet(case: &Case) -> Sheet {
             emissions[water] = vec![plastics(case, 2)];
             emissions[2] = vec![plastics(case, 1)];
         }
-        kind => unreachable!("kind {kind} is within the ranges"),
+        kind => unreachable!("kind {kind} is not within the ranges"),
     }
     Sheet { case: *case, equation, source, emissions }
 }
