@@ -30,5 +30,5 @@ fn the_examples() {
             _ => panic!("{words}"),
         }
     }
-    assert_eq!(commands, 9);
+    assert_eq!(commands, 10);
 }
