@@ -11,7 +11,7 @@ use lib.Dec.{leb, eqb}
 use lib.ListN.{length}
 use borrow.Author.Tests.{leb-true, eqb-true}
 use Rattle.octets.proofs.Bools.{every, every-at}
-use Rattle.kinds.specs.Polymers.{polymers, noPolymer, usagesOf, usageAt, rows, usages, tonnes}
+use Rattle.kinds.specs.Polymers.{polymers, noPolymer, usagesOf, usageAt, polymerRows, usageCount, tonnesInAll}
 use Rattle.kinds.specs.declared.polymers.Usage.{Usage}
 use Rattle.kinds.specs.declared.polymers.Usage.the-variants.{NoUsage, Tonnes}
 use Rattle.kinds.proofs.KindTable.{OtherThan, beyond}
@@ -45,15 +45,15 @@ usage-small row user q e = leb-true q mostUsed (rw e at (each-small row user))
 
 -- ── the table as a whole
 
-pub table-whole : map (λ (row : ℕ). usageAt row 1 ∷ usageAt row 2 ∷ usageAt row 3 ∷ []) rows ≡ polymers
+pub table-whole : map (λ (row : ℕ). usageAt row 1 ∷ usageAt row 2 ∷ usageAt row 3 ∷ []) polymerRows ≡ polymers
 unfolding usageAt usagesOf polymers
 table-whole = refl
 
 abbrev column : ℕ → List Usage
-column user = map (λ (row : ℕ). usageAt row user) rows
+column user = map (λ (row : ℕ). usageAt row user) polymerRows
 
 -- open, partially open, closed: 34 usages
-pub column-sums : (map (λ (user : ℕ). usages (column user)) (1 ∷ 2 ∷ 3 ∷ []) ≡ 8 ∷ 8 ∷ 18 ∷ [])
-    × (map (λ (user : ℕ). tonnes (column user)) (1 ∷ 2 ∷ 3 ∷ []) ≡ 3260 ∷ 38750 ∷ 13316 ∷ [])
+pub column-sums : (map (λ (user : ℕ). usageCount (column user)) (1 ∷ 2 ∷ 3 ∷ []) ≡ 8 ∷ 8 ∷ 18 ∷ [])
+    × (map (λ (user : ℕ). tonnesInAll (column user)) (1 ∷ 2 ∷ 3 ∷ []) ≡ 3260 ∷ 38750 ∷ 13316 ∷ [])
 unfolding usageAt usagesOf polymers
 column-sums = (refl, refl)

@@ -67,17 +67,16 @@ isMissing (Tonnes q) = false
 
 -- ── the table as a whole
 
--- the rows of kind 8
-abbrev pub rows : List ℕ
-rows = 1 ∷ 2 ∷ 3 ∷ 4 ∷ 5 ∷ 6 ∷ 7 ∷ 8 ∷ 9 ∷ 10 ∷ 11 ∷ 12 ∷ 13 ∷ 14 ∷ 15 ∷ 16 ∷ 17 ∷ 18 ∷ []
+abbrev pub polymerRows : List ℕ
+polymerRows = 1 ∷ 2 ∷ 3 ∷ 4 ∷ 5 ∷ 6 ∷ 7 ∷ 8 ∷ 9 ∷ 10 ∷ 11 ∷ 12 ∷ 13 ∷ 14 ∷ 15 ∷ 16 ∷ 17 ∷ 18 ∷ []
 
 -- of some cells: how many hold a usage, and the tonnes of all
-abbrev pub usages : List Usage → ℕ
-usages [] = 0
-usages (NoUsage ∷ us) = usages us
-usages (Tonnes q ∷ us) = 1 + usages us
+abbrev pub usageCount : List Usage → ℕ
+usageCount [] = 0
+usageCount (NoUsage ∷ us) = usageCount us
+usageCount (Tonnes q ∷ us) = 1 + usageCount us
 
-abbrev pub tonnes : List Usage → ℕ
-tonnes [] = 0
-tonnes (NoUsage ∷ us) = tonnes us
-tonnes (Tonnes q ∷ us) = q + tonnes us
+abbrev pub tonnesInAll : List Usage → ℕ
+tonnesInAll [] = 0
+tonnesInAll (NoUsage ∷ us) = tonnesInAll us
+tonnesInAll (Tonnes q ∷ us) = q + tonnesInAll us
