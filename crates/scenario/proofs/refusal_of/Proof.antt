@@ -1,4 +1,4 @@
--- The first of refusals 2 to 7, and where none holds the first of 8 to 11: one list after another.
+-- The first of refusals 2 to 7 and 31, and where none holds the first of 8 to 11: one list after another.
 use mathlib.Core.Path.{refl}
 use denote.Ref.{now}
 use borrow.Author.Needs.{needs}
