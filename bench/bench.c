@@ -150,6 +150,17 @@ static void agree_on_all(void)
     }
 }
 
+/* Kind 8 over its whole table, and beside it. */
+static void agree_on_usages(void)
+{
+    uint8_t bytes[CSORVELIN_CASE_SIZE];
+    for (uint8_t row = 0; row <= 19; row++)
+        for (uint8_t user = 0; user <= 4; user++) {
+            put_case(bytes, 8, row, user, 250, 7, (const double[6]){typical(1), typical(0.6), typical(0.6)});
+            agree(bytes, sizeof bytes);
+        }
+}
+
 static double time_of_call(work_out *f)
 {
     uint64_t figures[4];
@@ -164,6 +175,7 @@ static void bench_work_out(void)
 {
     double library[ROUNDS], peer[ROUNDS];
     peer_start();
+    agree_on_usages();
     for (int smallest = 0; smallest <= 1; smallest++)
         for (int k = 0; k < KINDS; k++) {
             make_cases(&inputs[k], smallest);

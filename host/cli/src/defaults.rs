@@ -2,7 +2,7 @@
 
 use crate::json::Json;
 use csorvelin_model::ranges;
-use csorvelin_model::tables::{self, CityRow, DefaultValue, HygieneRow, PolymerRow, PROCESSES};
+use csorvelin_model::tables::{self, CityRow, DefaultValue, HygieneRow, PolymerRow};
 
 pub fn text() -> String {
     let mut text = "Source documents (l. is a line of the text copy; docs/DEFAULTS.md has its SHA-256)\n".to_string();
@@ -62,7 +62,7 @@ fn polymer_text(polymer: &PolymerRow) -> String {
     let PolymerRow { row, name, usages } = polymer;
     let [open, partially_open, closed] = usages.map(|usage| usage.map_or("-", |usage| usage.decimal));
     let source = usages.iter().flatten().map(|usage| usage.source).next().unwrap_or("");
-    format!("  {row:<3}{name:<23}1 {open:<6}2 {partially_open:<6}3 {closed:<6}[{source}]\n")
+    format!("  {row:<3}{name:<23}1: {open:<7}2: {partially_open:<7}3: {closed:<7}[{source}]\n")
 }
 
 pub fn json() -> Json {
@@ -89,9 +89,9 @@ pub fn json() -> Json {
         ("city", Json::list(tables::CITY_ROWS.iter().map(city_json))),
         ("hygiene", Json::list(tables::HYGIENE_ROWS.iter().map(hygiene_json))),
         ("polymers", Json::list(tables::POLYMER_ROWS.iter().map(polymer_json))),
+        ("polymers_note", Json::from(tables::PLASTICS_NOTE)),
         ("constants", Json::list(constants)),
         ("suggestions", Json::list(suggestions)),
-        ("polymers_note", Json::from(tables::PLASTICS_NOTE)),
     ])
 }
 
@@ -120,11 +120,11 @@ fn hygiene_json(hygiene: &HygieneRow) -> Json {
 
 /// A process without usage is left out.
 fn polymer_json(polymer: &PolymerRow) -> Json {
-    let usages = (1u8..).zip(PROCESSES).zip(&polymer.usages).filter_map(|((user, process), usage)| {
+    let usages = ranges::users(8).filter_map(|user| {
         Some(Json::object([
             ("user", Json::from(user)),
-            ("process", Json::from(process)),
-            ("Q", default_json(usage.as_ref()?)),
+            ("process", Json::from(ranges::user_meaning(8, user))),
+            ("Q", default_json(&tables::usage(polymer.row, user)?)),
         ]))
     });
     Json::object([("row", Json::from(polymer.row)), ("name", Json::from(polymer.name)), ("usages", Json::list(usages))])

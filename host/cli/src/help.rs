@@ -128,7 +128,7 @@ fn kind(kind: u8) -> String {
 
 const DOWNTOWN: &str = "The city is paved downtown only (001, l. 66–69).";
 
-/// What a kind does not cover, or covers only with evidence.
+/// What a kind does not cover, or covers only with evidence; what its rows stand for, where the equation does not say it.
 fn scope(kind: u8) -> &'static [&'static str] {
     match kind {
         1 | 2 => &[DOWNTOWN, "A share below 1 needs tonnage data (001, l. 107–108)."],
@@ -137,10 +137,8 @@ fn scope(kind: u8) -> &'static [&'static str] {
             "B is for brush and roller; spraying loses 0.1 + 0.2 (000, Table 17, l. 1074–1075) and is not covered.",
         ],
         8 => &[
-            "Q is the usage on site of the row's polymer in the process that user names; 31 where it has none.",
-            "The usages are UK data, \"probably not representative for all of the EU\" (004, l. 244).",
-            "b and c are totals over handling, compounding and conversion at the site (004, l. 432–433, 449).",
-            "Default fractions for these by particle size, volatility and process: 004, 4.3.4, l. 523–587.",
+            "Q is what a site uses of the row's polymer in the user's process; where it has none, 31 refuses the case.",
+            "csorvelin defaults prints the usages, and what must be known of them and of b and c.",
         ],
         _ => &[],
     }

@@ -1,6 +1,6 @@
 //! The command `csorvelin`: works out, explains and files cases through the proved library.
 //!
-//! Exit status: 0, the number of a refusal (1 to 12, 21 to 24), or one of those of [`failure`], 64 and above.
+//! Exit status: 0, the number of a refusal (1 to 12, 21 to 24, 31), or one of those of [`failure`], 64 and above.
 
 mod arguments;
 mod commands;

@@ -31,7 +31,7 @@ pub fn page() -> String {
     for form in OPTIONS.iter().filter(|form| EVERYWHERE.contains(&form.option)) {
         text += &option(form);
     }
-    text += ".SH EXIT STATUS\n.TP\n.B 0\nas asked\n";
+    text += ".SH EXIT STATUS\nRefusals stand in the order in which they are looked for.\n.TP\n.B 0\nas asked\n";
     for refusal in Refusal::ALL {
         text += &format!(".TP\n.B {}\nrefused: {}\n", refusal.number(), line(refusal.words()));
     }

@@ -300,7 +300,7 @@ fn refusals_name_the_field_and_what_is_allowed() {
         (&["kind=2", "row=3", "dossier=7", "b=1"], 9, "1", "zero: kind 2 row 3 carries a, c and no other quantity"),
         (&["kind=7", "row=1", "dossier=7", "c=5.5"], 10, "5.5", "0 to 5 kg per litre for kind 7 (density)"),
         (&["kind=5", "T=1", "dossier=7", "c=0.75", "d=0.5"], 11, "1.25", "at most 1"),
-        (&["kind=8", "user=3"], 3, "0 (not given)", "1 to 18 for kind 8\n"),
+        (&["kind=8", "user=3"], 3, "0 (not given)", "1 to 18 for kind 8 (LDPE to Epoxy resins)\n"),
         (&["kind=8", "row=1", "user=2", "route=2"], 4, "2", "1 (to the STP) only for kind 8 row 1\n"),
         (
             &["kind=8", "row=1"],
@@ -363,7 +363,11 @@ fn json_answers() {
     assert!(ran.ends(0).out.ends_with(figures), "{}", ran.out);
     let ran = place.run(&[&["explain", "--json"], &P1[..]].concat());
     assert!(ran.ends(0).out.contains("\"kilograms\":\"1/13\",\"micrograms\":\"1000000000/13\""), "{}", ran.out);
-    place.run(&["defaults", "--json"]).ends(0);
+    let ran = place.run(&["defaults", "--json"]);
+    let ldpe = "{\"row\":1,\"name\":\"LDPE\",\"usages\":[{\"user\":2,\"process\":\"partially open process\",\
+                \"Q\":{\"value\":\"23100\",\"source\":\"004, 3.3, Table 3.1, l. 250\"}},{\"user\":3,";
+    assert!(ran.ends(0).out.contains(ldpe), "{}", ran.out);
+    assert!(ran.out.contains("],\"polymers_note\":\"Q is from the UK"), "{}", ran.out);
     let ran = place.run(&["work-out", "kind=x", "--json"]);
     assert!(ran.ends(64).out.starts_with("{\"error\":64,"), "{}", ran.out);
 }
@@ -381,13 +385,16 @@ fn defaults_and_help() {
         assert!(defaults.ends(0).out.contains(part), "{part}");
     }
     for polymer in [
-        "\n  1  LDPE                   1 -     2 23100 3 528   [004, 3.3, Table 3.1, l. 250]\n",
-        "\n  6  Polystyrene            1 605   2 389   3 623   [004, 3.3, Table 3.1, l. 255]\n",
-        "\n  18 Epoxy resins           1 -     2 -     3 80    [004, 3.3, Table 3.1, l. 267]\n",
+        "\nPolymer rows, kind 8: usage on site Q in t per year by user, 1 (open process), 2 (partially open process) or ",
+        "\n  1  LDPE                   1: -      2: 23100  3: 528    [004, 3.3, Table 3.1, l. 250]\n",
+        "\n  6  Polystyrene            1: 605    2: 389    3: 623    [004, 3.3, Table 3.1, l. 255]\n",
+        "\n  18 Epoxy resins           1: -      2: -      3: 80     [004, 3.3, Table 3.1, l. 267]\n",
     ] {
         assert!(defaults.out.contains(polymer), "{polymer}{}", defaults.out);
     }
-    assert_eq!(defaults.out.matches("probably not representative for all of the EU").count(), 1);
+    for part in ["004, l. 244", "(l. 432–433)", "(l. 449)", "in 4.3.4 (l. 523–587)", "(l. 555, 587)"] {
+        assert_eq!(defaults.out.matches(part).count(), 1, "{part}\n{}", defaults.out);
+    }
     for words in [&["help"][..], &["--help"], &["-h"]] {
         let help = place.run(words);
         for command in COMMANDS {
@@ -428,7 +435,7 @@ fn defaults_and_help() {
   b + c  at most 1, each addition rounded in binary64
 ";
     assert!(plastics.contains(fields) && !plastics.contains("row 0 only"), "{plastics}");
-    for part in ["31 where it has none", "004, l. 244", "004, l. 432–433, 449", "004, 4.3.4, l. 523–587"] {
+    for part in ["where it has none, 31 refuses the case", "csorvelin defaults prints the usages"] {
         assert!(plastics.contains(part), "{part}\n{plastics}");
     }
     for words in [&["help", "--json"][..], &["help", "kinds", "--json"], &["new", "--help", "--json"]] {

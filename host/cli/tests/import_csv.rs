@@ -114,7 +114,7 @@ fn plastics_from_a_table() {
         ),
         (
             "8,,2,250,8,0.5,0.25,0.125",
-            "refused 3: the row is not among the kind's: row: found 0 (not given), allowed 1 to 18 for kind 8",
+            "refused 3: the row is not among the kind's: row: found 0 (not given), allowed 1 to 18 for kind 8 (LDPE to Epoxy resins)",
         ),
         (
             "8,1,2,,8,0.5,0.25,0.125",

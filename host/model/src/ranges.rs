@@ -58,7 +58,7 @@ pub const KIND_NAMES: [&str; 8] = [
     "plastics makers, by site",
 ];
 
-/// The rows of a kind; none where there is no such kind.
+/// The rows of a kind.
 pub fn rows(kind: u8) -> RangeInclusive<u8> {
     match kind {
         1..=3 => 0..=7,
@@ -66,7 +66,7 @@ pub fn rows(kind: u8) -> RangeInclusive<u8> {
         5 => 0..=0,
         6 => 0..=5,
         8 => 1..=18,
-        _ => RangeInclusive::new(1, 0),
+        kind => unreachable!("there is no kind {kind}"),
     }
 }
 
@@ -246,7 +246,11 @@ fn row_not_allowed(case: &Case) -> Option<Violation> {
     if rows.contains(&case.row) {
         return None;
     }
-    violated(3, "row", case.row.to_string(), format!("{} for kind {}", span(&rows), case.kind))
+    let names = match (case.kind, tables::POLYMER_ROWS) {
+        (8, [first, .., last]) => format!(" ({} to {})", first.name, last.name),
+        _ => String::new(),
+    };
+    violated(3, "row", case.row.to_string(), format!("{} for kind {}{names}", span(&rows), case.kind))
 }
 
 fn route_not_allowed(case: &Case) -> Option<Violation> {

@@ -306,7 +306,8 @@ pub const PLASTICS_NOTE: &str =
     "Q is from the UK, \"probably not representative for all of the EU\" (004, l. 244). b and c are totals over \
      handling, compounding and conversion at one site (l. 432–433); where compounding and conversion are at separate \
      sites, conversion counts as 0 at the first, handling and compounding at the second (l. 449). 004 has default \
-     fractions by particle size, volatility and process in 4.3.4 (l. 523–587), no single numbers for b and c.";
+     fractions by particle size, volatility and process in 4.3.4 (l. 523–587), half of the loss to air counted as loss \
+     to water (l. 555, 587); single numbers for b and c it has not.";
 
 /// What the documents suggest for quantities that a case gives itself: kind, quantity, meaning, suggestion.
 pub const SUGGESTIONS: [(u8, char, &str, DefaultValue); 8] = [

@@ -38,6 +38,22 @@ fn the_format_page_has_the_printed_table() {
     assert_eq!(lines, expected.collect::<Vec<_>>());
 }
 
+/// docs/DEFAULTS.md has each line with its usages; its quotes have a space where the copy has tabs.
+#[test]
+fn the_defaults_page_has_the_printed_table() {
+    let page = include_str!("../../../docs/DEFAULTS.md").lines();
+    let lines: Vec<&str> = page.filter(|line| line.starts_with("| row ") && line.contains("| No. 2 |")).collect();
+    let expected = (1..).zip(250..).zip(polymers()).map(|((row, number), Polymer { line, usages, .. })| {
+        let named = ["open", "partially open", "closed"].into_iter().zip(usages);
+        let named = named.filter_map(|(process, usage)| Some(format!("{process} {}", usage?)));
+        let named = named.collect::<Vec<_>>().join(", ");
+        let quote = line.split('\t').filter(|cell| !cell.is_empty()).collect::<Vec<_>>().join(" ");
+        let place = format!("No. 2 | 004, 3.3, Table 3.1, l. {number}");
+        format!("| row {row}: {named} | {place} | `{quote}` | `polymers` | by row and process |")
+    });
+    assert_eq!(lines, expected.collect::<Vec<_>>());
+}
+
 #[test]
 fn there_is_no_usage_beside_the_table() {
     for (row, process) in [(0, 3), (19, 3), (255, 3), (6, 0), (6, 4), (6, 255)] {
@@ -72,7 +88,7 @@ fn three_digits(thousandths: u64) -> u64 {
 /// Each usage is its share of the tonnage times the number of its process: a digit that was misread on either side shows.
 #[test]
 fn usages_follow_from_tonnage_and_percentage() {
-    for (row, Polymer { name, tonnage, percentages, usages }) in (1..).zip(polymers()) {
+    for (row, Polymer { name, tonnage, percentages, usages, .. }) in (1..).zip(polymers()) {
         for ((percentage, usage), tenths) in percentages.into_iter().zip(usages).zip(tenths(row)) {
             let expected = percentage.map(|percentage| three_digits(tonnage * percentage * tenths));
             assert_eq!(usage, expected, "{name}");

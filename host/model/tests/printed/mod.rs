@@ -1,8 +1,10 @@
 //! Table 3.1 of document 004, section 3.3, as it is printed.
+// Each test that takes this module uses a part of it.
 #![allow(dead_code)]
 
 /// A line of the table: tonnage in thousands of tonnes; percentages and usages by process, none where a cell is blank.
 pub struct Polymer {
+    pub line: &'static str,
     pub name: &'static str,
     pub tonnage: u64,
     pub percentages: [Option<u64>; 3],
@@ -20,6 +22,7 @@ fn polymer(line: &'static str) -> Polymer {
     let [name, tonnage, percentages @ .., open, partially_open, closed] = &cells[..] else { panic!("{line}") };
     let percentages = percentages.iter().map(|cell| (!cell.is_empty()).then(|| percentage(cell)));
     Polymer {
+        line,
         name,
         tonnage: whole(tonnage),
         percentages: percentages.collect::<Vec<_>>().try_into().expect("three percentages"),
