@@ -16,7 +16,7 @@ Within [] (n ∷ ns) = ⊥
 Within (x ∷ xs) [] = ⊥
 Within (x ∷ xs) (n ∷ ns) = UpTo n x × Within xs ns
 
--- the rows that a kind has, T where row 0 takes it, and the quantities in the order in which they are multiplied
+-- the rows that a kind has, T where it is taken, and the quantities in the order in which they are multiplied
 unfoldable pub InRange : Case → Head → Type 0
 InRange (Measured a b c s) h =
     (h .row ≤ 7) × (h .row ≡ 0 → 31 ≤ h .count) × Within (a ∷ b ∷ c ∷ s .area ∷ []) (100 ∷ 100 ∷ 1 ∷ 1000 ∷ [])

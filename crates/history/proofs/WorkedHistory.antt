@@ -33,7 +33,7 @@ infixr 1 _and_
 _and_ : {A B : Type 0} → A → B → A × B
 a and b = (a, b)
 
--- also of the case that is refused, whose figures are zeros; of what is no case any figures are fed
+-- also of the cases that are refused, whose figures are zeros; of what is no case any figures are fed
 pub worked-fed : AllFed (map (λ (t : Told). t .call) workedHistory)
 unfolding workedHistory caseBytes bytesOf figuresOf exactValues emitted chain total cities cityAt hygienes hygieneAt caseOfPatterns caseWith headOf numberAt numberOf refusalOf notSixtyFour kindUnknown rowUnknown routeNotAllowed userNotAllowed usageMissing usageAt usagesOf polymers countNotAllowed notNumber notZeroBytes overLimit sumFrom sumWithin summedOf sumOver kinds kindAt isUnsignedFinite whole wholeAt add le ofBits toBits ceiling
 worked-fed =

@@ -117,20 +117,20 @@ has-usage row user =
     or equal user 2 and (inside (1 to 3) row or inside (5 to 6) row or inside (11 to 13) row)
     or equal user 3 and inside (1 to 18) row
 
--- one of the two holds
-either : Bool → Bool → Bool
-either m t = cond m (not t) t
+-- exactly one of the two holds
+differ : Bool → Bool → Bool
+differ m t = cond m (not t) t
 
-by-either : (m t : Bool) → either m t ≡ true → m ≡ not t
-unfolding either
-by-either true t e = sym e
-by-either false t e = rw e
+by-differ : (m t : Bool) → differ m t ≡ true → m ≡ not t
+unfolding differ
+by-differ true t e = sym e
+by-differ false t e = rw e
 
 cell : (row user : ℕ) → row < 19 → user < 4 → isMissing (usageAt row user) ≡ not (hasUsage row user)
-unfolding allBelow either hasUsage usageAt usagesOf polymers
+unfolding allBelow differ hasUsage usageAt usagesOf polymers
 cell row user h g =
-    let agree : ℕ → ℕ → Bool = (λ r u. either (isMissing (usageAt r u)) (hasUsage r u)) in
-    by-either (isMissing (usageAt row user)) (hasUsage row user) (all-below (agree row) 4 (all-below (λ r. allBelow (agree r) 4) 19 refl row h) user g)
+    let agree : ℕ → ℕ → Bool = (λ r u. differ (isMissing (usageAt r u)) (hasUsage r u)) in
+    by-differ (isMissing (usageAt row user)) (hasUsage row user) (all-below (agree row) 4 (all-below (λ r. allBelow (agree r) 4) 19 refl row h) user g)
 
 module _ (b : List ℕ) (k : ℕ) (h : IsKind k) where
   pub rows-exactly : Passes (rowUnknown k (rowOf b)) (allowedBy k b .row)

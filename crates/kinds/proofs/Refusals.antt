@@ -1,7 +1,7 @@
 -- Laws of the first refusal that holds.
 -- Of any list of conditions: `first-of-is-first`, `first-is-first-of`, `first-of-append`, `first-of-some`, `first-of-none` (one list after another),
 -- `none-holds` (where the first is 0).
--- Of a case: `refusal-order`, `refusal-numbers`, `refusal-of-length`, `refusal-of-fields`, `numbers-accepted`, `decoded-accepted`, `decoded-refused`.
+-- Of a case: `refusal-order`, `refusal-numbers`, `refusal-of-length`, `numbers-accepted`.
 -- What a case without refusal satisfies is in `Ranges`.
 use mathlib.Core.Path.{_≡_, refl, subst}
 use mathlib.Core.Bool.{Bool, true, false, not, cond}

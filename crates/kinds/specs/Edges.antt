@@ -87,7 +87,7 @@ told =
     ∷ (caseBytes 5 0 1 0 250 7 sixteen (unit + 1) half quarter eighth 0 gives 10)
     ∷ (caseBytes 5 0 1 0 250 7 sixteen eighth half quarter half 0 gives 11)
     -- two: 1 and 2, 2 and 3, and so on
-    ∷ (8 ∷ caseBytes 5 0 1 0 250 7 sixteen eighth half quarter eighth 0 gives 1)
+    ∷ (9 ∷ caseBytes 5 0 1 0 250 7 sixteen eighth half quarter eighth 0 gives 1)
     ∷ (caseBytes 9 8 1 0 250 7 sixteen eighth half quarter eighth 0 gives 2)
     ∷ (caseBytes 5 1 2 0 250 7 sixteen eighth half quarter eighth 0 gives 3)
     ∷ (caseBytes 5 0 2 1 250 7 sixteen eighth half quarter eighth 0 gives 4)
@@ -156,7 +156,7 @@ told =
     -- of kind 8, which has no row 0: LDPE has no usage by an open process, and epoxy resins none by a partially open one
     ∷ (caseBytes 8 0 1 2 250 7 half quarter eighth 0 0 0 gives 3)
     ∷ (caseBytes 8 19 1 2 250 7 half quarter eighth 0 0 0 gives 3)
-    ∷ (caseBytes 8 1 2 2 250 7 half quarter eighth 0 0 0 gives 4)
+    ∷ (caseBytes 8 3 2 2 250 7 half quarter eighth 0 0 0 gives 4)
     ∷ (caseBytes 8 1 1 0 250 7 half quarter eighth 0 0 0 gives 5)
     ∷ (caseBytes 8 1 1 4 250 7 half quarter eighth 0 0 0 gives 5)
     ∷ (caseBytes 8 1 1 1 250 7 half quarter eighth 0 0 0 gives 31)

@@ -2,7 +2,7 @@
 -- its last three columns. Request No. 2: rows are the polymers in the table's order, users the processes, 1 open, 2 partially open, 3 closed.
 -- docs/DEFAULTS.md has the quotes.
 use mathlib.Core.Bool.{Bool, true, false}
-use mathlib.Core.List.{List, [], _∷_}
+use mathlib.Core.List.{List, [], _∷_, map}
 use Prim.Native.Nat.{ℕ, _+_}
 use lib.ListN.{getD}
 use Rattle.kinds.specs.declared.polymers.Usage.{Usage}
@@ -69,6 +69,10 @@ isMissing (Tonnes q) = false
 
 abbrev pub polymerRows : List ℕ
 polymerRows = 1 ∷ 2 ∷ 3 ∷ 4 ∷ 5 ∷ 6 ∷ 7 ∷ 8 ∷ 9 ∷ 10 ∷ 11 ∷ 12 ∷ 13 ∷ 14 ∷ 15 ∷ 16 ∷ 17 ∷ 18 ∷ []
+
+-- of a process
+abbrev pub column : ℕ → List Usage
+column user = map (λ (row : ℕ). usageAt row user) polymerRows
 
 -- of some cells: how many hold a usage, and the tonnes of all
 abbrev pub usageCount : List Usage → ℕ

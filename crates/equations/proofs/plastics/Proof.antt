@@ -13,14 +13,18 @@ unfolding InRange Within
 plastics-part-requires c κs =
     let u = c .before .before .before in
     let p = u .before .pre in
-    (usage-small _ _ _ (sym (u .usage-of .ensures) ∙ c .before .tonnes .given .1), p .0, (p .1 .0, (p .1 .1 .1 .0, tt)))
+    let air = p .1 .1 .0 in
+    let water = p .1 .1 .1 .0 in
+    (usage-small _ _ _ (sym (u .usage-of .ensures) ∙ c .before .tonnes .given .1), p .0, (p .1 .0, (search needs, tt)))
 
 plastics-part-requires-2 : tie.Need-plastics-part-requires-2
 unfolding InRange Within
 plastics-part-requires-2 c κs =
     let u = c .before .before .before .before in
     let p = u .before .pre in
-    (usage-small _ _ _ (sym (u .usage-of .ensures) ∙ c .before .before .tonnes .given .1), p .0, (p .1 .0, (p .1 .1 .0, tt)))
+    let air = p .1 .1 .0 in
+    let water = p .1 .1 .1 .0 in
+    (usage-small _ _ _ (sym (u .usage-of .ensures) ∙ c .before .before .tonnes .given .1), p .0, (p .1 .0, (search needs, tt)))
 
 returns : tie.Need-returns
 unfolding emitted
