@@ -11,7 +11,7 @@
 # make fmt      lays out every .rt and .antt file
 # make clean    removes all that is built
 
-.PHONY: help test check trace results lib list c-test host host-test install-test run install bench fmt clean FORCE
+.PHONY: help test check trace results layout lib list c-test host host-test install-test run install bench fmt clean FORCE
 .DEFAULT_GOAL := help
 SHELL := /bin/bash
 .SHELLFLAGS := -o pipefail -c
@@ -49,7 +49,7 @@ help:
 
 # The library under test is built from the crates as the gate proved them, so that nothing is proved twice. `rt ci` removes
 # target/ first; what it said is kept elsewhere, and its last line is said again when all has passed.
-test: trace results
+test: trace results layout
 	@$(needs-rt)
 	@rt fmt --check
 	@said=$$(mktemp) && trap 'rm -f "$$said"' EXIT && rt ci | tee "$$said" && \
@@ -66,6 +66,10 @@ trace:
 # Each function that returns something says by an equation what.
 results:
 	@tests/results
+
+# docs/FORMAT.md prints the tables of fields, and filing has no buffer of its own.
+layout:
+	@tests/layout
 
 lib: $(LIB)
 

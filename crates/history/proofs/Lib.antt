@@ -9,6 +9,7 @@ pub mod OneVariable
 pub mod InterfacePossible
 pub mod SingleCalls
 pub mod BytesLeft
+pub mod FieldsLeft
 pub mod FreeSpace
 pub mod ShownFigures
 pub mod WorkedHistory

@@ -1,6 +1,6 @@
 -- What goes through the induction, as one record: `Stands`. One call from there, by any lawful way, answers as the ledger does and stands again: `kept`.
 -- A request's effect on the buffer and the ledger's ruling are alike, `alike`, one clause for each request; the refused case is one law for all of them.
--- The first empty, from any buffer: `first-stands`.
+-- The first empty, from any buffer: `first-stands`. Figures that work out gave are those of the case: `worked-figures`.
 use mathlib.Core.Path.{_≡_, refl, sym, ap, _∙_}
 use mathlib.Core.List.{List, [], _∷_, _++_}
 use Prim.Native.Nat.{ℕ, zero, suc, _+_, _≤_, _<_}
@@ -45,7 +45,7 @@ all-held-snoc : (ls : List Line) (l : Line) → AllHeld ls → HeldLine l → Al
 all-held-snoc [] l g h = (h, tt)
 all-held-snoc (m ∷ ls) l g h = (g .0, all-held-snoc ls l (g .1) h)
 
-worked-figures : {c f : List ℕ} → WorkedOut c f → f ≡ figuresOf c
+pub worked-figures : {c f : List ℕ} → WorkedOut c f → f ≡ figuresOf c
 worked-figures w = w .gave ∙ w .call .kept .1 ∙ ap figuresOf (w .on)
 
 held-line : (o : Offer) (f : List ℕ) → Within o → WorkedOut (o .case) f → HeldLine (lineWith o f)

@@ -1,5 +1,5 @@
 -- What a reader of this crate must believe: definitions only. The theorems stand in proofs/: Demand1, Demand3, Possible, Interface, InterfacePossible,
--- OneVariable, SingleCalls, BytesLeft, FreeSpace, ShownFigures, WorkedHistory.
+-- OneVariable, SingleCalls, BytesLeft, FieldsLeft, FreeSpace, ShownFigures, WorkedHistory.
 pub mod Ledger
 pub mod Seen
 pub mod Calls

@@ -1,42 +1,76 @@
--- The fields cover the record, each byte once: `fields-cover`; those of the case are the fields that it is written by: `fields-of-case`.
--- Writing a line leaves each field's bytes at its offset: `written-field`, and of any place in the case or of a figure `written-at`; what was spliced in is read back: `read-back`. Among figures: `figure-place`.
+-- The tables of fields cover record and trailer, each byte once: `fields-cover`, `trailer-fields-cover`, by one computed test of each (`Covering`).
+-- In plain numbers: `fields-of-case`, the fields of the case are those that it is written by; `numbered-record`, `numbered-fields`, the record whose bytes are 1 to 96.
+-- A field of the table in the record of a line: `field-in-record`; in the trailer of n records: `field-in-trailer`. Among figures: `figure-place`.
+-- Fields in what is written are in `FieldsWritten`.
 use mathlib.Core.Path.{_≡_, refl, sym, ap, _∙_}
 use mathlib.Core.Bool.{Bool, true, _&&_}
-use mathlib.Core.List.{List, [], _∷_, _++_, map}
-use Prim.Native.Nat.{ℕ, zero, suc, _+_, _*_, _≤_, _<_}
+use mathlib.Core.List.{List, [], _∷_, map}
+use Prim.Native.Nat.{ℕ, zero, suc, _+_, _*_, _<_}
 use native.Mathlib.Nat.{le-of-suc-le-suc, not-suc-le-zero, mul-suc}
 use native.Mathlib.Omega.{arith}
 use borrow.Author.Tests.{leb-true, eqb-true, ltb-true}
 use lib.Dec.{eqb, leb, ltb}
-use lib.ListN.{length, take, getD, length-append}
+use lib.ListN.{length, take, getD, List·getD-map}
 use lib.Seq.{take-at, drop-append-add}
-use Rattle.octets.specs.Bytes.{bytesOf, splice}
+use Rattle.octets.specs.Bytes.{bytesOf}
 use Rattle.octets.proofs.Numbers.{length-bytesOf}
-use Rattle.octets.proofs.Splice.{splice-read}
-use Rattle.kinds.specs.Builder.{caseBytes}
 use Rattle.octets.proofs.Bools.{both, every, every-at}
-use Rattle.records.specs.Layout.{Line, figureBytes, recordOf, trailer, recordSize, edition, bytesAt}
-use Rattle.records.specs.Fields.{Source, given, figureAt, Field, fields, noField, coversFrom, fieldBytes}
-use Rattle.records.specs.Buffer.{written}
-use Rattle.records.proofs.RecordLaws.{part-part, part-append, Sized, length-recordOf}
+use Rattle.kinds.specs.Builder.{caseBytes}
+use Rattle.records.specs.Layout.{Line, figureBytes, recordOf, trailer, trailerSize, recordSize, edition, bytesAt}
+use Rattle.records.specs.Fields.{Source, given, figureAt, Field, fields, noField, bytesFrom, fieldBytes, trailerFields, noTrailerField, trailerBytes, Cover}
+use Rattle.records.proofs.RecordLaws.{part-append, Sized}
+use Rattle.records.proofs.Covering.{in-order-covers}
 
-pub fields-cover : coversFrom 0 fields ≡ true
-fields-cover = refl
+-- ── covered, each byte once
+
+pub fields-cover : Cover fields noField recordSize
+fields-cover = in-order-covers noField recordSize fields refl
+
+pub trailer-fields-cover : Cover trailerFields noTrailerField trailerSize
+trailer-fields-cover = in-order-covers noTrailerField trailerSize trailerFields refl
+
+-- ── in plain numbers
 
 -- the case's fields are those that a case is written by, in the table's order
 pub fields-of-case : (kind row route user t dossier a b c d e f : ℕ)
-    → map (λ (x : Field). bytesAt (caseBytes kind row route user t dossier a b c d e f) (x .offset) (x .width)) (take 12 fields)
+    → map (λ (x : Field Source). bytesAt (caseBytes kind row route user t dossier a b c d e f) (x .offset) (x .width)) (take 12 fields)
     ≡ (kind ∷ []) ∷ (row ∷ []) ∷ (route ∷ []) ∷ (user ∷ []) ∷ bytesOf 4 t ∷ bytesOf 8 dossier
     ∷ bytesOf 8 a ∷ bytesOf 8 b ∷ bytesOf 8 c ∷ bytesOf 8 d ∷ bytesOf 8 e ∷ bytesOf 8 f ∷ []
 unfolding caseBytes bytesOf
 fields-of-case kind row route user t dossier a b c d e f = refl
 
--- ── a field in the record of a line
+-- the line whose record has the bytes 1 to 96
+abbrev numbered : Line
+numbered = record {
+  case = caseBytes 1 2 3 4 0x08070605 0x100f0e0d0c0b0a09
+      0x1817161514131211 0x201f1e1d1c1b1a19 0x2827262524232221 0x302f2e2d2c2b2a29 0x3837363534333231 0x403f3e3d3c3b3a39;
+  figures = 0x4847464544434241 ∷ 0x504f4e4d4c4b4a49 ∷ 0x5857565554535251 ∷ 0x605f5e5d5c5b5a59 ∷ [];
+}
 
--- it lies in the case, or is the place of one of the four figures
-abbrev pub Placed : ℕ → ℕ → Source → Type 0
-Placed o w given = o + w ≤ 64
-Placed o w (figureAt k) = (o ≡ 64 + 8 * k) × (w ≡ 8) × (k < 4)
+pub numbered-record : recordOf numbered
+    ≡
+    1 ∷ 2 ∷ 3 ∷ 4 ∷ 5 ∷ 6 ∷ 7 ∷ 8 ∷ 9 ∷ 10 ∷ 11 ∷ 12 ∷ 13 ∷ 14 ∷ 15 ∷ 16
+    ∷ 17 ∷ 18 ∷ 19 ∷ 20 ∷ 21 ∷ 22 ∷ 23 ∷ 24 ∷ 25 ∷ 26 ∷ 27 ∷ 28 ∷ 29 ∷ 30 ∷ 31 ∷ 32
+    ∷ 33 ∷ 34 ∷ 35 ∷ 36 ∷ 37 ∷ 38 ∷ 39 ∷ 40 ∷ 41 ∷ 42 ∷ 43 ∷ 44 ∷ 45 ∷ 46 ∷ 47 ∷ 48
+    ∷ 49 ∷ 50 ∷ 51 ∷ 52 ∷ 53 ∷ 54 ∷ 55 ∷ 56 ∷ 57 ∷ 58 ∷ 59 ∷ 60 ∷ 61 ∷ 62 ∷ 63 ∷ 64
+    ∷ 65 ∷ 66 ∷ 67 ∷ 68 ∷ 69 ∷ 70 ∷ 71 ∷ 72 ∷ 73 ∷ 74 ∷ 75 ∷ 76 ∷ 77 ∷ 78 ∷ 79 ∷ 80
+    ∷ 81 ∷ 82 ∷ 83 ∷ 84 ∷ 85 ∷ 86 ∷ 87 ∷ 88 ∷ 89 ∷ 90 ∷ 91 ∷ 92 ∷ 93 ∷ 94 ∷ 95 ∷ 96 ∷ []
+unfolding recordOf figureBytes caseBytes bytesOf
+numbered-record = refl
+
+pub numbered-fields : map (fieldBytes numbered) fields
+    ≡
+    (1 ∷ []) ∷ (2 ∷ []) ∷ (3 ∷ []) ∷ (4 ∷ []) ∷ (5 ∷ 6 ∷ 7 ∷ 8 ∷ []) ∷ (9 ∷ 10 ∷ 11 ∷ 12 ∷ 13 ∷ 14 ∷ 15 ∷ 16 ∷ [])
+    ∷ (17 ∷ 18 ∷ 19 ∷ 20 ∷ 21 ∷ 22 ∷ 23 ∷ 24 ∷ []) ∷ (25 ∷ 26 ∷ 27 ∷ 28 ∷ 29 ∷ 30 ∷ 31 ∷ 32 ∷ [])
+    ∷ (33 ∷ 34 ∷ 35 ∷ 36 ∷ 37 ∷ 38 ∷ 39 ∷ 40 ∷ []) ∷ (41 ∷ 42 ∷ 43 ∷ 44 ∷ 45 ∷ 46 ∷ 47 ∷ 48 ∷ [])
+    ∷ (49 ∷ 50 ∷ 51 ∷ 52 ∷ 53 ∷ 54 ∷ 55 ∷ 56 ∷ []) ∷ (57 ∷ 58 ∷ 59 ∷ 60 ∷ 61 ∷ 62 ∷ 63 ∷ 64 ∷ [])
+    ∷ (65 ∷ 66 ∷ 67 ∷ 68 ∷ 69 ∷ 70 ∷ 71 ∷ 72 ∷ []) ∷ (73 ∷ 74 ∷ 75 ∷ 76 ∷ 77 ∷ 78 ∷ 79 ∷ 80 ∷ [])
+    ∷ (81 ∷ 82 ∷ 83 ∷ 84 ∷ 85 ∷ 86 ∷ 87 ∷ 88 ∷ []) ∷ (89 ∷ 90 ∷ 91 ∷ 92 ∷ 93 ∷ 94 ∷ 95 ∷ 96 ∷ [])
+    ∷ []
+unfolding caseBytes bytesOf
+numbered-fields = refl
+
+-- ── a field in the record of a line, and in the trailer
 
 pub figure-place : (fs : List ℕ) (k : ℕ) → k < length fs → bytesAt (figureBytes fs) (8 * k) 8 ≡ bytesOf 8 (getD fs k 0)
 unfolding figureBytes
@@ -46,48 +80,39 @@ figure-place (f ∷ fs) (suc k) h =
     let p : 8 * suc k ≡ length (bytesOf 8 f) + 8 * k = omega (arith, length-bytesOf 8 f, mul-suc 8 k) in
     rw (p, drop-append-add (bytesOf 8 f) (figureBytes fs) (8 * k)) (figure-place fs k (le-of-suc-le-suc h))
 
-in-record : (l : Line) (o w : ℕ) (s : Source) → Sized l → Placed o w s → bytesAt (recordOf l) o w ≡ fieldBytes l o w s
+-- the test: a field lies in the case, or at the place of its figure
+abbrev placed : ℕ → ℕ → Source → Bool
+placed o w given = leb (o + w) 64
+placed o w (figureAt k) = eqb o (64 + 8 * k) && (eqb w 8 && ltb k 4)
+
+by-source : (l : Line) (o w : ℕ) (s : Source) → Sized l → placed o w s ≡ true → bytesAt (recordOf l) o w ≡ bytesFrom l o w s
 unfolding recordOf
-in-record l o w given h p = let c = h .case-size in part-append (l .case) (figureBytes (l .figures)) o w (omega arith)
-in-record l o w (figureAt k) h p =
+by-source l o w given h e = let c = h .case-size in let p = leb-true (o + w) 64 e in part-append (l .case) (figureBytes (l .figures)) o w (omega arith)
+by-source l o w (figureAt k) h e =
+    let p = both (eqb o (64 + 8 * k)) (eqb w 8 && ltb k 4) e in
+    let q = both (eqb w 8) (ltb k 4) (p .1) in
     let f = h .four in
-    let q : o ≡ length (l .case) + 8 * k = rw (h .case-size) (p .0) in
-    rw (q, p .1, drop-append-add (l .case) (figureBytes (l .figures)) (8 * k)) (figure-place (l .figures) k (omega arith))
+    let t = ltb-true k 4 (q .1) in
+    let at : o ≡ length (l .case) + 8 * k = rw (h .case-size) (eqb-true _ _ (p .0)) in
+    rw (at, eqb-true w 8 (q .0), drop-append-add (l .case) (figureBytes (l .figures)) (8 * k)) (figure-place (l .figures) k (omega arith))
 
--- every field of the table is placed: one computed test
-abbrev placed : Field → Source → Bool
-placed f given = leb (f .offset + f .width) 64
-placed f (figureAt k) = eqb (f .offset) (64 + 8 * k) && (eqb (f .width) 8 && ltb k 4)
-
-as-placed : (f : Field) (s : Source) → placed f s ≡ true → Placed (f .offset) (f .width) s
-as-placed f given e = leb-true _ _ e
-as-placed f (figureAt k) e =
-    let p = both (eqb (f .offset) (64 + 8 * k)) (eqb (f .width) 8 && ltb k 4) e in
-    let q = both (eqb (f .width) 8) (ltb k 4) (p .1) in
-    (eqb-true _ _ (p .0), eqb-true _ _ (q .0), ltb-true _ _ (q .1))
-
-within-record : (o w : ℕ) (s : Source) → Placed o w s → o + w ≤ recordSize
-within-record o w given p = omega arith
-within-record o w (figureAt k) p = omega arith
-
--- ── and in what is written
-
--- what was spliced in is read back
-pub read-back : (l : List ℕ) (at : ℕ) (vs : List ℕ) (o w : ℕ) → at ≤ length l → o + w ≤ length vs → bytesAt (splice l at vs) (at + o) w ≡ bytesAt vs o w
-read-back l at vs o w h k = sym (part-part (splice l at vs) at (length vs) o w k) ∙ ap (λ (r : List ℕ). bytesAt r o w) (splice-read l at vs h)
-
-pub written-at : (b : List ℕ) (n : ℕ) (l : Line) (o w : ℕ) (s : Source) → Sized l → recordSize * n ≤ length b → Placed o w s
-    → bytesAt (written b n l) (recordSize * n + o) w ≡ fieldBytes l o w s
-unfolding written
-written-at b n l o w s h a p =
-    let t = trailer recordSize edition (n + 1) in
-    let k : o + w ≤ length (recordOf l) = rw (length-recordOf l h) (within-record o w s p) in
-    read-back b (recordSize * n) (recordOf l ++ t) o w a (omega (arith, length-append (recordOf l) t)) ∙ part-append (recordOf l) t o w k ∙ in-record l o w s h p
-
-pub written-field : (b : List ℕ) (n : ℕ) (l : Line) → Sized l → recordSize * n ≤ length b → (k : ℕ) → k < length fields
-    → let f = getD fields k noField in
-    bytesAt (written b n l) (recordSize * n + f .offset) (f .width) ≡ fieldBytes l (f .offset) (f .width) (f .source)
+pub field-in-record : (l : Line) → Sized l → (k : ℕ) → let f = getD fields k noField in bytesAt (recordOf l) (f .offset) (f .width) ≡ fieldBytes l f
 unfolding every
-written-field b n l h a k i =
+field-in-record l h k =
     let f = getD fields k noField in
-    written-at b n l (f .offset) (f .width) (f .source) h a (as-placed f (f .source) (every-at (λ (g : Field). placed g (g .source)) fields noField refl refl k))
+    by-source l (f .offset) (f .width) (f .source) h (every-at (λ (x : Field Source). placed (x .offset) (x .width) (x .source)) fields noField refl refl k)
+
+-- what stands in the trailer of n records where a field is
+abbrev there : ℕ → Field (ℕ → ℕ) → List ℕ
+there n f = bytesAt (trailer recordSize edition n) (f .offset) (f .width)
+
+all-there : (n : ℕ) → map (there n) trailerFields ≡ map (trailerBytes n) trailerFields
+unfolding trailer bytesOf
+all-there n = refl
+
+pub field-in-trailer : (n k : ℕ) → let f = getD trailerFields k noTrailerField in bytesAt (trailer recordSize edition n) (f .offset) (f .width) ≡ trailerBytes n f
+unfolding bytesOf
+field-in-trailer n k =
+    sym (List·getD-map (there n) trailerFields k noTrailerField)
+    ∙ ap (λ (l : List (List ℕ)). getD l k []) (all-there n)
+    ∙ List·getD-map (trailerBytes n) trailerFields k noTrailerField

@@ -8,6 +8,8 @@ pub mod Order
 pub mod WorstScan
 pub mod HeldLine
 pub mod WorstLine
+pub mod Covering
 pub mod FieldTable
+pub mod FieldsWritten
 pub mod Holding
 pub mod TrailerBytes
