@@ -35,21 +35,25 @@ covered fs none size at x y c same i h k =
 module _ (b x y : List ℕ) (p : LeftByEmpty b x) (q : LeftByEmpty b y) where
   emptied-byte : (i : ℕ) (t : Bool) → ltb i 16 ≡ t → getD x i 0 ≡ getD y i 0
   emptied-byte i true e =
-      covered trailerFields noTrailerField 16 0 x y trailer-fields-cover (λ k h. p .in-trailer k h ∙ sym (q .in-trailer k h)) i (omega arith) (ltb-true i 16 e)
-  emptied-byte i false e = let h = ltb-false i 16 e in p .behind i h ∙ sym (q .behind i h)
+      let h = ltb-true i 16 e in
+      covered trailerFields noTrailerField 16 0 x y trailer-fields-cover (λ k l. p .in-trailer k l ∙ sym (q .in-trailer k l)) i (omega arith) (omega arith)
+  emptied-byte i false e = let h = ltb-false i 16 e in p .behind i (omega arith) ∙ sym (q .behind i (omega arith))
 
   pub emptied-whole : x ≡ y
   emptied-whole = ext-getD 0 x y (p .size ∙ sym (q .size)) (λ i h. emptied-byte i (ltb i 16) refl)
 
 module _ (n : ℕ) (l : Line) (b x y : List ℕ) (p : LeftByFile n l b x) (q : LeftByFile n l b y) where
   filed-byte : (i : ℕ) (r s t : Bool) → ltb i (96 * n) ≡ r → ltb i (96 * n + 96) ≡ s → ltb i (96 * n + 112) ≡ t → getD x i 0 ≡ getD y i 0
-  filed-byte i true s t e f g = let h = ltb-true _ _ e in p .before i h ∙ sym (q .before i h)
+  filed-byte i true s t e f g = let h = ltb-true i (96 * n) e in p .before i (omega arith) ∙ sym (q .before i (omega arith))
   filed-byte i false true t e f g =
-      covered fields noField 96 (96 * n) x y fields-cover (λ k h. p .in-record k h ∙ sym (q .in-record k h)) i (ltb-false _ _ e) (ltb-true _ _ f)
+      let h = ltb-false i (96 * n) e in
+      let j = ltb-true i (96 * n + 96) f in
+      covered fields noField 96 (96 * n) x y fields-cover (λ k l. p .in-record k l ∙ sym (q .in-record k l)) i (omega arith) (omega arith)
   filed-byte i false false true e f g =
-      let h = ltb-true i (96 * n + 112) g in
-      covered trailerFields noTrailerField 16 (96 * n + 96) x y trailer-fields-cover (λ k h. p .in-trailer k h ∙ sym (q .in-trailer k h)) i (ltb-false _ _ f) (omega arith)
-  filed-byte i false false false e f g = let h = ltb-false _ _ g in p .behind i h ∙ sym (q .behind i h)
+      let h = ltb-false i (96 * n + 96) f in
+      let j = ltb-true i (96 * n + 112) g in
+      covered trailerFields noTrailerField 16 (96 * n + 96) x y trailer-fields-cover (λ k l. p .in-trailer k l ∙ sym (q .in-trailer k l)) i (omega arith) (omega arith)
+  filed-byte i false false false e f g = let h = ltb-false i (96 * n + 112) g in p .behind i (omega arith) ∙ sym (q .behind i (omega arith))
 
   pub filed-whole : x ≡ y
   filed-whole =
