@@ -1,5 +1,5 @@
 -- The tables of fields cover record and trailer, each byte once: `fields-cover`, `trailer-fields-cover`, by one computed test of each (`Covering`).
--- In plain numbers: `fields-of-case`, the fields of the case are those that it is written by; `numbered-record`, `numbered-fields`, the record whose bytes are 1 to 96.
+-- In other terms: `fields-of-case`, `fields-read`, `figures-read`, the fields are those that a case is written by, and that are read of it and of a record; `numbered-record`, `numbered-fields`, the record whose bytes are 1 to 96.
 -- A field of the table in the record of a line: `field-in-record`; in the trailer of n records: `field-in-trailer`. Among figures: `figure-place`.
 -- Fields in what is written are in `FieldsWritten`.
 use mathlib.Core.Path.{_≡_, refl, sym, ap, _∙_}
@@ -10,15 +10,16 @@ use native.Mathlib.Nat.{le-of-suc-le-suc, not-suc-le-zero, mul-suc}
 use native.Mathlib.Omega.{arith}
 use borrow.Author.Tests.{leb-true, eqb-true, ltb-true}
 use lib.Dec.{eqb, leb, ltb}
-use lib.ListN.{length, take, getD, List·getD-map}
+use lib.ListN.{length, take, drop, getD, List·getD-map}
 use lib.Seq.{take-at, drop-append-add}
-use Rattle.octets.specs.Bytes.{bytesOf}
-use Rattle.octets.proofs.Numbers.{length-bytesOf}
+use Rattle.octets.specs.Bytes.{bytesOf, numberAt}
+use Rattle.octets.proofs.Numbers.{length-bytesOf, numberAt-one}
 use Rattle.octets.proofs.Bools.{both, every, every-at}
+use Rattle.kinds.specs.Case.{kindOf, rowOf, routeOf, userOf, countOf, dossierOf, patternAt}
 use Rattle.kinds.specs.Builder.{caseBytes}
-use Rattle.records.specs.Layout.{Line, figureBytes, recordOf, trailer, trailerSize, recordSize, edition, bytesAt}
+use Rattle.records.specs.Layout.{Line, figureBytes, recordOf, lineOf, trailer, trailerSize, recordSize, edition, bytesAt}
 use Rattle.records.specs.Fields.{Source, given, figureAt, Field, fields, noField, bytesFrom, fieldBytes, trailerFields, noTrailerField, trailerBytes, Cover}
-use Rattle.records.proofs.RecordLaws.{part-append, Sized}
+use Rattle.records.proofs.RecordLaws.{part-append, line-figures, Sized}
 use Rattle.records.proofs.Covering.{in-order-covers}
 
 -- ── covered, each byte once
@@ -29,7 +30,7 @@ fields-cover = in-order-covers noField recordSize fields refl
 pub trailer-fields-cover : Cover trailerFields noTrailerField trailerSize
 trailer-fields-cover = in-order-covers noTrailerField trailerSize trailerFields refl
 
--- ── in plain numbers
+-- ── in other terms, and in plain numbers
 
 -- the case's fields are those that a case is written by, in the table's order
 pub fields-of-case : (kind row route user t dossier a b c d e f : ℕ)
@@ -38,6 +39,15 @@ pub fields-of-case : (kind row route user t dossier a b c d e f : ℕ)
     ∷ bytesOf 8 a ∷ bytesOf 8 b ∷ bytesOf 8 c ∷ bytesOf 8 d ∷ bytesOf 8 e ∷ bytesOf 8 f ∷ []
 unfolding caseBytes bytesOf
 fields-of-case kind row route user t dossier a b c d e f = refl
+
+-- the numbers at the table's places are those that are read of a case, and of a record's figures
+pub fields-read : (c : List ℕ) → map (λ (x : Field Source). numberAt c (x .offset) (x .width)) (take 12 fields)
+    ≡ kindOf c ∷ rowOf c ∷ routeOf c ∷ userOf c ∷ countOf c ∷ dossierOf c
+    ∷ patternAt c 0 ∷ patternAt c 1 ∷ patternAt c 2 ∷ patternAt c 3 ∷ patternAt c 4 ∷ patternAt c 5 ∷ []
+fields-read c = rw (numberAt-one c 0, numberAt-one c 1, numberAt-one c 2, numberAt-one c 3)
+
+pub figures-read : (r : List ℕ) → map (λ (x : Field Source). numberAt r (x .offset) (x .width)) (drop 12 fields) ≡ lineOf r .figures
+figures-read r = sym (line-figures r)
 
 -- the line whose record has the bytes 1 to 96
 abbrev numbered : Line
