@@ -1,6 +1,6 @@
 # make run      builds the library and the command, and shows the main job on an example
-# make test     everything: every proof, must-fail edit and program from nothing, then the C interface, the host side against
-#               an independent model and the installation; the last line is the toolchain's 'N passed, M failed'
+# make test     everything: what the documents name, every proof, must-fail edit and program from nothing, then the C interface, the
+#               host side against an independent model and the installation; the last line is the toolchain's 'N passed, M failed'
 # make check    the proofs, of what changed since the last run only, and the programs
 # make lib      the static library target/staticlib/libcsorvelin.a, proved before it is built
 # make list     the program target/bin/list, which prints an archive, proved before it is built
@@ -11,7 +11,7 @@
 # make fmt      lays out every .rt and .antt file
 # make clean    removes all that is built
 
-.PHONY: help test check trace results layout lib list c-test host host-test install-test run install bench fmt clean FORCE
+.PHONY: help test check trace results layout straight lib list c-test host host-test install-test run install bench fmt clean FORCE
 .DEFAULT_GOAL := help
 SHELL := /bin/bash
 .SHELLFLAGS := -o pipefail -c
@@ -53,7 +53,7 @@ test: trace results layout
 	@$(needs-rt)
 	@rt fmt --check
 	@said=$$(mktemp) && trap 'rm -f "$$said"' EXIT && rt ci | tee "$$said" && \
-	    $(MAKE) --no-print-directory c-test host-test install-test && tail -n 1 "$$said"
+	    $(MAKE) --no-print-directory straight c-test host-test install-test && tail -n 1 "$$said"
 
 check:
 	@$(needs-rt)
@@ -67,9 +67,13 @@ trace:
 results:
 	@tests/results
 
-# docs/FORMAT.md prints the tables of fields, and filing has no buffer of its own.
+# docs/FORMAT.md prints the tables of fields.
 layout:
 	@tests/layout
+
+# Filing writes into the archive that it is lent, with no record put together elsewhere.
+straight: $(LIB)
+	@tests/straight
 
 lib: $(LIB)
 

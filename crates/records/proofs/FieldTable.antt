@@ -46,7 +46,7 @@ pub fields-read : (c : List ℕ) → map (λ (x : Field Source). numberAt c (x .
     ∷ patternAt c 0 ∷ patternAt c 1 ∷ patternAt c 2 ∷ patternAt c 3 ∷ patternAt c 4 ∷ patternAt c 5 ∷ []
 fields-read c = rw (numberAt-one c 0, numberAt-one c 1, numberAt-one c 2, numberAt-one c 3)
 
-pub figures-read : (r : List ℕ) → map (λ (x : Field Source). numberAt r (x .offset) (x .width)) (drop 12 fields) ≡ lineOf r .figures
+pub figures-read : (r : List ℕ) → map (λ (x : Field Source). numberAt r (x .offset) (x .width)) (take 4 (drop 12 fields)) ≡ lineOf r .figures
 figures-read r = sym (line-figures r)
 
 -- the line whose record has the bytes 1 to 96

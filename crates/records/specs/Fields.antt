@@ -7,7 +7,7 @@ use Prim.Native.Nat.{ℕ, _+_, _*_, _≤_, _<_}
 use Prim.Native.String.{String}
 use lib.ListN.{length, getD}
 use Rattle.octets.specs.Bytes.{bytesOf}
-use Rattle.records.specs.Layout.{Line, recordSize, edition, bytesAt}
+use Rattle.records.specs.Layout.{Line, bytesAt}
 
 -- Its name, its offset, its width in bytes, and where they come from.
 pub record Field (S : Type 0) : Type 0 where
@@ -62,9 +62,9 @@ fieldBytes l f = bytesFrom l (f .offset) (f .width) (f .source)
 
 abbrev pub trailerFields : List (Field (ℕ → ℕ))
 trailerFields =
-    field "distance" 0 8 (λ (n : ℕ). recordSize * n)
+    field "distance" 0 8 (λ (n : ℕ). 96 * n)
     ∷ field "number of records" 8 4 (λ (n : ℕ). n)
-    ∷ field "edition" 12 4 (λ (n : ℕ). edition)
+    ∷ field "edition" 12 4 (λ (n : ℕ). 1)
     ∷ []
 
 abbrev pub noTrailerField : Field (ℕ → ℕ)
