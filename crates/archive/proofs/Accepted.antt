@@ -1,5 +1,5 @@
 -- What a call may rely on once it is not refused: `Shown` with `shown-facts`, `Free` with `free-facts`.
--- What worst then tells: `worst-told`. What file answers and leaves: `file-refused`, `file-accepted`; every byte of it in plain numbers is in `Left`.
+-- What worst then tells: `worst-told`. What file answers and leaves: `file-refused`, `file-accepted`; every byte of it, field by field and in plain numbers, is in `Left`.
 use mathlib.Core.Path.{_≡_, refl, sym, ap, _∙_}
 use mathlib.Core.List.{List}
 use Prim.Native.Nat.{ℕ, _+_, _*_, _-_, _≤_, _<_}

@@ -8,7 +8,7 @@ use borrow.Author.Tests.{ltb-true, ltb-false}
 use lib.Dec.{ltb}
 use lib.ListN.{length, getD, drop}
 use lib.Seq.{getD-take, getD-drop, ext-getD}
-use Rattle.records.specs.Layout.{Line, bytesAt}
+use Rattle.records.specs.Layout.{Line, trailerSize, recordSize, bytesAt}
 use Rattle.records.specs.Fields.{Field, fields, noField, trailerFields, noTrailerField, Cover}
 use Rattle.records.proofs.FieldTable.{fields-cover, trailer-fields-cover}
 use Rattle.archive.specs.Left.{LeftByEmpty, LeftByFile}
@@ -33,28 +33,28 @@ covered fs none size at x y c same i h k =
     ∙ of-part y (at + f .offset) (f .width) i l m
 
 module _ (b x y : List ℕ) (p : LeftByEmpty b x) (q : LeftByEmpty b y) where
-  emptied-byte : (i : ℕ) (t : Bool) → ltb i 16 ≡ t → getD x i 0 ≡ getD y i 0
+  emptied-byte : (i : ℕ) (t : Bool) → ltb i trailerSize ≡ t → getD x i 0 ≡ getD y i 0
   emptied-byte i true e =
-      let h = ltb-true i 16 e in
-      covered trailerFields noTrailerField 16 0 x y trailer-fields-cover (λ k l. p .in-trailer k l ∙ sym (q .in-trailer k l)) i (omega arith) (omega arith)
-  emptied-byte i false e = let h = ltb-false i 16 e in p .behind i (omega arith) ∙ sym (q .behind i (omega arith))
+      let h = ltb-true i trailerSize e in
+      covered trailerFields noTrailerField trailerSize 0 x y trailer-fields-cover (λ k l. p .in-trailer k l ∙ sym (q .in-trailer k l)) i (omega arith) (omega arith)
+  emptied-byte i false e = let h = ltb-false i trailerSize e in p .behind i (omega arith) ∙ sym (q .behind i (omega arith))
 
   pub emptied-whole : x ≡ y
-  emptied-whole = ext-getD 0 x y (p .size ∙ sym (q .size)) (λ i h. emptied-byte i (ltb i 16) refl)
+  emptied-whole = ext-getD 0 x y (p .size ∙ sym (q .size)) (λ i h. emptied-byte i (ltb i trailerSize) refl)
 
 module _ (n : ℕ) (l : Line) (b x y : List ℕ) (p : LeftByFile n l b x) (q : LeftByFile n l b y) where
-  filed-byte : (i : ℕ) (r s t : Bool) → ltb i (96 * n) ≡ r → ltb i (96 * n + 96) ≡ s → ltb i (96 * n + 112) ≡ t → getD x i 0 ≡ getD y i 0
-  filed-byte i true s t e f g = let h = ltb-true i (96 * n) e in p .before i (omega arith) ∙ sym (q .before i (omega arith))
+  filed-byte : (i : ℕ) (r s t : Bool) → ltb i (recordSize * n) ≡ r → ltb i (recordSize * n + recordSize) ≡ s → ltb i (recordSize * n + (recordSize + trailerSize)) ≡ t → getD x i 0 ≡ getD y i 0
+  filed-byte i true s t e f g = let h = ltb-true i (recordSize * n) e in p .before i (omega arith) ∙ sym (q .before i (omega arith))
   filed-byte i false true t e f g =
-      let h = ltb-false i (96 * n) e in
-      let j = ltb-true i (96 * n + 96) f in
-      covered fields noField 96 (96 * n) x y fields-cover (λ k l. p .in-record k l ∙ sym (q .in-record k l)) i (omega arith) (omega arith)
+      let h = ltb-false i (recordSize * n) e in
+      let j = ltb-true i (recordSize * n + recordSize) f in
+      covered fields noField recordSize (recordSize * n) x y fields-cover (λ k l. p .in-record k l .0 ∙ sym (q .in-record k l .0)) i (omega arith) (omega arith)
   filed-byte i false false true e f g =
-      let h = ltb-false i (96 * n + 96) f in
-      let j = ltb-true i (96 * n + 112) g in
-      covered trailerFields noTrailerField 16 (96 * n + 96) x y trailer-fields-cover (λ k l. p .in-trailer k l ∙ sym (q .in-trailer k l)) i (omega arith) (omega arith)
-  filed-byte i false false false e f g = let h = ltb-false i (96 * n + 112) g in p .behind i (omega arith) ∙ sym (q .behind i (omega arith))
+      let h = ltb-false i (recordSize * n + recordSize) f in
+      let j = ltb-true i (recordSize * n + (recordSize + trailerSize)) g in
+      covered trailerFields noTrailerField trailerSize (recordSize * n + recordSize) x y trailer-fields-cover (λ k l. p .in-trailer k l ∙ sym (q .in-trailer k l)) i (omega arith) (omega arith)
+  filed-byte i false false false e f g = let h = ltb-false i (recordSize * n + (recordSize + trailerSize)) g in p .behind i (omega arith) ∙ sym (q .behind i (omega arith))
 
   pub filed-whole : x ≡ y
   filed-whole =
-      ext-getD 0 x y (p .size ∙ sym (q .size)) (λ i h. filed-byte i (ltb i (96 * n)) (ltb i (96 * n + 96)) (ltb i (96 * n + 112)) refl refl refl)
+      ext-getD 0 x y (p .size ∙ sym (q .size)) (λ i h. filed-byte i (ltb i (recordSize * n)) (ltb i (recordSize * n + recordSize)) (ltb i (recordSize * n + (recordSize + trailerSize))) refl refl refl)

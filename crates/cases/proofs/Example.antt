@@ -1,16 +1,23 @@
--- Lines as text, computed: the case, the call and the state that the definitions make of them.
+-- Lines as text, computed: the case, the call and the state that the definitions make of them. The record among the fields of a call has the table's places: `record-places`.
 use mathlib.Core.Path.{_≡_, refl}
 use mathlib.Core.Bool.{true, false}
-use mathlib.Core.List.{List}
-use Prim.Native.Nat.{ℕ}
+use mathlib.Core.List.{List, [], _∷_, map}
+use Prim.Native.Nat.{ℕ, _+_}
 use Rattle.bytes.specs.Bytes.{indexOf, indexAfter}
 use Rattle.octets.specs.Bytes.{bytesOf, numberOf, numberAt, splice}
 use Rattle.kinds.specs.Builder.{caseBytes, hundred, unit}
+use Rattle.records.specs.Fields.{Source, Field, fields}
 use Rattle.listing.specs.Listing.{codes}
 use Rattle.cases.specs.Words.{onto, partsOf, sameWord, placeIn}
 use Rattle.cases.specs.Numbers.{digitOf, valueFrom, valueIn, isHexadecimal, numberIn}
 use Rattle.cases.specs.Fields.{fieldNames, fieldAt, widthOf, fieldOf, valueOf, fits, withNumber, areFields, withFields, caseIn}
 use Rattle.cases.specs.Calls.{callNames, callIn, wordsIn, blank, fieldsIn, sizeAfter, sizeBy, sizeOn}
+
+-- the fields kind to soil stand 8 bytes behind their places in a record, and are as wide
+pub record-places : map {B = ℕ × ℕ} (λ (k : ℕ). (fieldAt k, widthOf k)) (1 ∷ 2 ∷ 3 ∷ 4 ∷ 5 ∷ 6 ∷ 7 ∷ 8 ∷ 9 ∷ 10 ∷ 11 ∷ 12 ∷ 13 ∷ 14 ∷ 15 ∷ 16 ∷ [])
+    ≡ map {B = ℕ × ℕ} (λ (f : Field Source). (8 + f .offset, f .width)) fields
+unfolding fieldAt widthOf
+record-places = refl
 
 -- P1 of paper 01
 abbrev pub p1 : List ℕ

@@ -1,4 +1,4 @@
--- Every byte that a call of empty or file leaves, in plain numbers, by its answer, and of a refused call that it leaves all: `bytes-left`; of calls from C `c-bytes-left`.
+-- Every byte that a call of empty or file leaves, field by field and in plain numbers, by its answer, and of a refused call that it leaves all: `bytes-left`; of calls from C `c-bytes-left`.
 -- By any lawful way of calling: `way-left`. What the other calls leave is in Demand1 `unchanged`.
 use mathlib.Core.Path.{sym, _∙_}
 use mathlib.Core.List.{List}

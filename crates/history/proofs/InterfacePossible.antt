@@ -73,7 +73,7 @@ module _ (κ : Lft) where
       let e = ap (answering r) (accepted-map line r w 0) in
       made c-lawful (names (record { κs = (κ, (κ, tt)); args = (lent b, (u, (m, (lent 0, tt)))); result = r; last = (tt, (tt, (tt, (accepted r w 0, tt)))); kept = e })) u [] refl d
 
-  c-can : Can fromC
+  pub c-can : Can fromC
   unfolding lent
   c-can = record {
     turn = c-turn-can;

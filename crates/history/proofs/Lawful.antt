@@ -1,9 +1,10 @@
 -- A way of calling is lawful where each call answers and leaves what the effect of its request says, and figures worked out are a result of work out: `Lawful`.
--- The functions of `archive` are: `direct-lawful`. A turn by such a way does so too: `turn-does`. What feeds a request by one way does by another: `fed-map`.
-use mathlib.Core.Path.{_≡_, refl, sym, _∙_, subst}
+-- The functions of `archive` are: `direct-lawful`. A turn by such a way does so too: `turn-does`. What feeds a request by one way does by another: `fed-map`. Figures that work out gave: `worked-figures`.
+use mathlib.Core.Path.{_≡_, refl, sym, ap, _∙_, subst}
 use mathlib.Core.List.{List}
 use Prim.Native.Nat.{ℕ}
 use denote.Ref.{now}
+use Rattle.emission.specs.Figures.{figuresOf}
 use Rattle.archive.specs.Answers.{Answer, shown, refusalBy, answerBy, leftBy}
 use Rattle.archive.specs.Archive.{showRefusal}
 use Rattle.archive.proofs.AnswerLaws.{accepted-same, of-showing}
@@ -19,6 +20,10 @@ pub record Does (s : Seen) : Type 0 where
 pub record Lawful (W : Way) : Type 0 where
   pub does : (call : W .Call) (u : ℕ) (f : List ℕ) → Does (W .seen call u f)
   pub worked : (c f : List ℕ) → W .WorkedOut c f → WorkedOut c f
+
+-- figures that work out gave are those of the case
+pub worked-figures : {c f : List ℕ} → WorkedOut c f → f ≡ figuresOf c
+worked-figures w = w .gave ∙ w .call .kept .1 ∙ ap figuresOf (w .on)
 
 -- a call that only reads
 pub reading : {c : Request} {b : List ℕ} {u : ℕ} {a : Answer} → effect c b u .leaves ≡ b → a ≡ answerBy (effect c b u) → Does (seeing c b u a b)

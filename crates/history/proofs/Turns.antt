@@ -1,6 +1,6 @@
 -- What goes through the induction, as one record: `Stands`. One call from there, by any lawful way, answers as the ledger does and stands again: `kept`.
 -- A request's effect on the buffer and the ledger's ruling are alike, `alike`, one clause for each request; the refused case is one law for all of them.
--- The first empty, from any buffer: `first-stands`. Figures that work out gave are those of the case: `worked-figures`.
+-- The first empty, from any buffer: `first-stands`.
 use mathlib.Core.Path.{_≡_, refl, sym, ap, _∙_}
 use mathlib.Core.List.{List, [], _∷_, _++_}
 use Prim.Native.Nat.{ℕ, zero, suc, _+_, _≤_, _<_}
@@ -11,7 +11,6 @@ use lib.ListN.{length}
 use Rattle.kinds.specs.Refusal.{_when_, firstOf}
 use Rattle.kinds.specs.Case.{refusalOf}
 use Rattle.kinds.proofs.Refusals.{none-holds}
-use Rattle.emission.specs.Figures.{figuresOf}
 use Rattle.emission.proofs.Demand2.{figure-bounds}
 use Rattle.records.specs.Layout.{Line, trailerSize, usedLength, mostRecords, recordSize}
 use Rattle.records.specs.Buffer.{written}
@@ -27,7 +26,7 @@ use Rattle.history.specs.Ledger.{Request, empty, file, show, worst, from
 use Rattle.history.specs.Seen.{effect, Way}
 use Rattle.history.specs.Calls.{WorkedOut}
 use Rattle.history.specs.History.{FedBy, TurnBy, HeldLine, AllHeld}
-use Rattle.history.proofs.Lawful.{Lawful, fed-map, turn-does}
+use Rattle.history.proofs.Lawful.{Lawful, fed-map, turn-does, worked-figures}
 
 -- the buffer b of a size, at the used length u, holds the lines ls, each worked out and within its bounds
 pub record Stands (size : ℕ) (b : List ℕ) (u : ℕ) (ls : List Line) : Type 0 where
@@ -44,9 +43,6 @@ pub record Kept (size u : ℕ) (ls : List Line) (c : Request) (a : Answer) (b′
 all-held-snoc : (ls : List Line) (l : Line) → AllHeld ls → HeldLine l → AllHeld (ls ++ (l ∷ []))
 all-held-snoc [] l g h = (h, tt)
 all-held-snoc (m ∷ ls) l g h = (g .0, all-held-snoc ls l (g .1) h)
-
-pub worked-figures : {c f : List ℕ} → WorkedOut c f → f ≡ figuresOf c
-worked-figures w = w .gave ∙ w .call .kept .1 ∙ ap figuresOf (w .on)
 
 held-line : (o : Offer) (f : List ℕ) → Within o → WorkedOut (o .case) f → HeldLine (lineWith o f)
 held-line o f r w =

@@ -4,9 +4,10 @@ use mathlib.Core.Path.{_≡_}
 use mathlib.Core.List.{List}
 use Prim.Native.Nat.{ℕ, _+_, _*_}
 use Rattle.kinds.specs.Refusal.{Condition, IsFirst}
+use Rattle.emission.specs.Figures.{figuresOf}
 use Rattle.archive.specs.Offers.{Offer}
 use Rattle.archive.specs.Answers.{Answer, emptied, filed, Effect}
-use Rattle.archive.specs.Archive.{emptyEffect, lineFor, fileEffect, showEffect, worstEffect}
+use Rattle.archive.specs.Archive.{emptyEffect, fileEffect, showEffect, worstEffect}
 use Rattle.archive.specs.Left.{LeftByEmpty, LeftByFile}
 use Rattle.history.specs.Ledger.{Request, empty, file, show, worst}
 
@@ -57,5 +58,5 @@ SeenUnchanged s = (s .answer .refusal ≡ 0 → ⊥) → (s .answer .places ≡ 
 
 pub record SeenLeft (s : Seen) : Type 0 where
   pub by-empty : s .request ≡ empty → (v : ℕ) → s .answer ≡ emptied 0 v → (v ≡ 16) × LeftByEmpty (s .before) (s .after)
-  pub by-file : (o : Offer) (f : List ℕ) → s .request ≡ file o f → (n v : ℕ) → s .answer ≡ filed 0 n v → (v ≡ 96 * n + 112) × LeftByFile n (lineFor o) (s .before) (s .after)
+  pub by-file : (o : Offer) (f : List ℕ) → s .request ≡ file o f → (n v : ℕ) → s .answer ≡ filed 0 n v → (v ≡ 96 * n + 112) × LeftByFile n (record { case = o .case; figures = figuresOf (o .case) }) (s .before) (s .after)
   pub refused : (s .answer .refusal ≡ 0 → ⊥) → s .after ≡ s .before

@@ -1,25 +1,27 @@
 -- The tables of fields cover record and trailer, each byte once: `fields-cover`, `trailer-fields-cover`, by one computed test of each (`Covering`).
--- In other terms: `fields-of-case`, `fields-read`, `figures-read`, the fields are those that a case is written by, and that are read of it and of a record; `numbered-record`, `numbered-fields`, the record whose bytes are 1 to 96.
--- A field of the table in the record of a line: `field-in-record`; in the trailer of n records: `field-in-trailer`. Among figures: `figure-place`.
+-- In other terms: `fields-of-case`, `fields-read`, `figures-read`, the fields are those that a case is written by, and that are read of it and of a record; `trailer-fields-read`, of the trailer; `numbered-record`, `numbered-fields`, the record whose bytes are 1 to 96, and the names of its fields.
+-- A field of the table in the record of a line: `field-in-record`, with as many bytes as it is wide: `field-wide`; in the trailer of n records: `field-in-trailer`. Among figures: `figure-place`.
 -- Fields in what is written are in `FieldsWritten`.
 use mathlib.Core.Path.{_≡_, refl, sym, ap, _∙_}
 use mathlib.Core.Bool.{Bool, true, _&&_}
 use mathlib.Core.List.{List, [], _∷_, map}
-use Prim.Native.Nat.{ℕ, zero, suc, _+_, _*_, _<_}
+use Prim.Native.Nat.{ℕ, zero, suc, _+_, _-_, _*_, _≤_, _<_}
+use Prim.Native.String.{String}
 use native.Mathlib.Nat.{le-of-suc-le-suc, not-suc-le-zero, mul-suc}
 use native.Mathlib.Omega.{arith}
 use borrow.Author.Tests.{leb-true, eqb-true, ltb-true}
 use lib.Dec.{eqb, leb, ltb}
-use lib.ListN.{length, take, drop, getD, List·getD-map}
-use lib.Seq.{take-at, drop-append-add}
+use lib.ListN.{length, take, drop, getD, length-drop, List·getD-map}
+use lib.Seq.{take-at, length-take-le, drop-append-add}
 use Rattle.octets.specs.Bytes.{bytesOf, numberAt}
 use Rattle.octets.proofs.Numbers.{length-bytesOf, numberAt-one}
 use Rattle.octets.proofs.Bools.{both, every, every-at}
 use Rattle.kinds.specs.Case.{kindOf, rowOf, routeOf, userOf, countOf, dossierOf, patternAt}
 use Rattle.kinds.specs.Builder.{caseBytes}
 use Rattle.records.specs.Layout.{Line, figureBytes, recordOf, lineOf, trailer, trailerSize, recordSize, edition, bytesAt}
-use Rattle.records.specs.Fields.{Source, given, figureAt, Field, fields, noField, bytesFrom, fieldBytes, trailerFields, noTrailerField, trailerBytes, Cover}
-use Rattle.records.proofs.RecordLaws.{part-append, line-figures, Sized}
+use Rattle.records.specs.Fields.{Source, given, figureAt, Field, fields, noField, bytesFrom, fieldBytes, trailerFields, noTrailerField, trailerFieldBytes, Cover}
+use Rattle.records.specs.Buffer.{distanceAt, countAt, editionAt}
+use Rattle.records.proofs.RecordLaws.{part-append, line-figures, Sized, length-recordOf}
 use Rattle.records.proofs.Covering.{in-order-covers}
 
 -- ── covered, each byte once
@@ -49,6 +51,15 @@ fields-read c = rw (numberAt-one c 0, numberAt-one c 1, numberAt-one c 2, number
 pub figures-read : (r : List ℕ) → map (λ (x : Field Source). numberAt r (x .offset) (x .width)) (take 4 (drop 12 fields)) ≡ lineOf r .figures
 figures-read r = sym (line-figures r)
 
+-- and those of the trailer are the ones that are read before a used length
+pub trailer-fields-read : (b : List ℕ) (u : ℕ) → 16 ≤ u
+    → map (λ (x : Field (ℕ → ℕ)). numberAt b (u - 16 + x .offset) (x .width)) trailerFields ≡ distanceAt b u ∷ countAt b u ∷ editionAt b u ∷ []
+trailer-fields-read b u h =
+    let p : u - 16 + 0 ≡ u - 16 = omega arith in
+    let q : u - 16 + 8 ≡ u - 8 = omega arith in
+    let r : u - 16 + 12 ≡ u - 4 = omega arith in
+    rw (p, q, r)
+
 -- the line whose record has the bytes 1 to 96
 abbrev numbered : Line
 numbered = record {
@@ -68,14 +79,15 @@ pub numbered-record : recordOf numbered
 unfolding recordOf figureBytes caseBytes bytesOf
 numbered-record = refl
 
-pub numbered-fields : map (fieldBytes numbered) fields
+pub numbered-fields : map {B = String × List ℕ} (λ (f : Field Source). (f .name, fieldBytes numbered f)) fields
     ≡
-    (1 ∷ []) ∷ (2 ∷ []) ∷ (3 ∷ []) ∷ (4 ∷ []) ∷ (5 ∷ 6 ∷ 7 ∷ 8 ∷ []) ∷ (9 ∷ 10 ∷ 11 ∷ 12 ∷ 13 ∷ 14 ∷ 15 ∷ 16 ∷ [])
-    ∷ (17 ∷ 18 ∷ 19 ∷ 20 ∷ 21 ∷ 22 ∷ 23 ∷ 24 ∷ []) ∷ (25 ∷ 26 ∷ 27 ∷ 28 ∷ 29 ∷ 30 ∷ 31 ∷ 32 ∷ [])
-    ∷ (33 ∷ 34 ∷ 35 ∷ 36 ∷ 37 ∷ 38 ∷ 39 ∷ 40 ∷ []) ∷ (41 ∷ 42 ∷ 43 ∷ 44 ∷ 45 ∷ 46 ∷ 47 ∷ 48 ∷ [])
-    ∷ (49 ∷ 50 ∷ 51 ∷ 52 ∷ 53 ∷ 54 ∷ 55 ∷ 56 ∷ []) ∷ (57 ∷ 58 ∷ 59 ∷ 60 ∷ 61 ∷ 62 ∷ 63 ∷ 64 ∷ [])
-    ∷ (65 ∷ 66 ∷ 67 ∷ 68 ∷ 69 ∷ 70 ∷ 71 ∷ 72 ∷ []) ∷ (73 ∷ 74 ∷ 75 ∷ 76 ∷ 77 ∷ 78 ∷ 79 ∷ 80 ∷ [])
-    ∷ (81 ∷ 82 ∷ 83 ∷ 84 ∷ 85 ∷ 86 ∷ 87 ∷ 88 ∷ []) ∷ (89 ∷ 90 ∷ 91 ∷ 92 ∷ 93 ∷ 94 ∷ 95 ∷ 96 ∷ [])
+    ("kind", 1 ∷ []) ∷ ("row", 2 ∷ []) ∷ ("route", 3 ∷ []) ∷ ("user", 4 ∷ []) ∷ ("T", 5 ∷ 6 ∷ 7 ∷ 8 ∷ [])
+    ∷ ("dossier number", 9 ∷ 10 ∷ 11 ∷ 12 ∷ 13 ∷ 14 ∷ 15 ∷ 16 ∷ [])
+    ∷ ("a", 17 ∷ 18 ∷ 19 ∷ 20 ∷ 21 ∷ 22 ∷ 23 ∷ 24 ∷ []) ∷ ("b", 25 ∷ 26 ∷ 27 ∷ 28 ∷ 29 ∷ 30 ∷ 31 ∷ 32 ∷ [])
+    ∷ ("c", 33 ∷ 34 ∷ 35 ∷ 36 ∷ 37 ∷ 38 ∷ 39 ∷ 40 ∷ []) ∷ ("d", 41 ∷ 42 ∷ 43 ∷ 44 ∷ 45 ∷ 46 ∷ 47 ∷ 48 ∷ [])
+    ∷ ("e", 49 ∷ 50 ∷ 51 ∷ 52 ∷ 53 ∷ 54 ∷ 55 ∷ 56 ∷ []) ∷ ("f", 57 ∷ 58 ∷ 59 ∷ 60 ∷ 61 ∷ 62 ∷ 63 ∷ 64 ∷ [])
+    ∷ ("STP", 65 ∷ 66 ∷ 67 ∷ 68 ∷ 69 ∷ 70 ∷ 71 ∷ 72 ∷ []) ∷ ("surface water", 73 ∷ 74 ∷ 75 ∷ 76 ∷ 77 ∷ 78 ∷ 79 ∷ 80 ∷ [])
+    ∷ ("air", 81 ∷ 82 ∷ 83 ∷ 84 ∷ 85 ∷ 86 ∷ 87 ∷ 88 ∷ []) ∷ ("soil", 89 ∷ 90 ∷ 91 ∷ 92 ∷ 93 ∷ 94 ∷ 95 ∷ 96 ∷ [])
     ∷ []
 unfolding caseBytes bytesOf
 numbered-fields = refl
@@ -112,17 +124,25 @@ field-in-record l h k =
     let f = getD fields k noField in
     by-source l (f .offset) (f .width) (f .source) h (every-at (λ (x : Field Source). placed (x .offset) (x .width) (x .source)) fields noField refl refl k)
 
+pub field-wide : (l : Line) → Sized l → (k : ℕ) → k < length fields → let f = getD fields k noField in length (fieldBytes l f) ≡ f .width
+field-wide l h k i =
+    let f = getD fields k noField in
+    let r = recordOf l in
+    let c = fields-cover .inside k i in
+    ap length (sym (field-in-record l h k))
+    ∙ length-take-le (f .width) (drop (f .offset) r) (omega (arith, length-drop (f .offset) r, length-recordOf l h))
+
 -- what stands in the trailer of n records where a field is
 abbrev there : ℕ → Field (ℕ → ℕ) → List ℕ
 there n f = bytesAt (trailer recordSize edition n) (f .offset) (f .width)
 
-all-there : (n : ℕ) → map (there n) trailerFields ≡ map (trailerBytes n) trailerFields
+all-there : (n : ℕ) → map (there n) trailerFields ≡ map (trailerFieldBytes n) trailerFields
 unfolding trailer bytesOf
 all-there n = refl
 
-pub field-in-trailer : (n k : ℕ) → let f = getD trailerFields k noTrailerField in bytesAt (trailer recordSize edition n) (f .offset) (f .width) ≡ trailerBytes n f
+pub field-in-trailer : (n k : ℕ) → let f = getD trailerFields k noTrailerField in bytesAt (trailer recordSize edition n) (f .offset) (f .width) ≡ trailerFieldBytes n f
 unfolding bytesOf
 field-in-trailer n k =
     sym (List·getD-map (there n) trailerFields k noTrailerField)
     ∙ ap (λ (l : List (List ℕ)). getD l k []) (all-there n)
-    ∙ List·getD-map (trailerBytes n) trailerFields k noTrailerField
+    ∙ List·getD-map (trailerFieldBytes n) trailerFields k noTrailerField

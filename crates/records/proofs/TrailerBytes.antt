@@ -1,5 +1,5 @@
 -- Refusal 21 in bytes: where it does not hold, the 16 bytes before the used length are the trailer of the n that stands there, byte for byte, and n
--- is at most 1,000,000: `trailer-there`. Where those bytes stand there, it does not hold: `trailer-enough`. The bytes themselves, in plain numbers: `trailer-bytes-of-none`, `trailer-bytes`.
+-- is at most 1,000,000: `trailer-there`. Where those bytes stand there, it does not hold: `trailer-enough`. The bytes themselves, of one n: `trailer-bytes`.
 use mathlib.Core.Path.{_≡_, refl, sym, ap, _∙_}
 use mathlib.Core.Bool.{false}
 use mathlib.Core.List.{List, [], _∷_, _++_, append-assoc}
@@ -35,11 +35,6 @@ trailer-enough b u n few l i t =
     let q = drop 16 (drop (u - 16) b) in
     let e : b ≡ p ++ (trailer 96 1 n ++ q) = sym (take-append-drop (u - 16) b) ∙ ap (λ (r : List ℕ). p ++ r) (sym (take-append-drop 16 (drop (u - 16) b)) ∙ ap (λ (r : List ℕ). r ++ q) t) in
     trailer-sound (trailer-read p q e (omega (arith, l, i, length-take (u - 16) b)) (omega arith) (omega arith) (omega arith)) l i few
-
--- no record
-pub trailer-bytes-of-none : trailer 96 1 0 ≡ 0 ∷ 0 ∷ 0 ∷ 0 ∷ 0 ∷ 0 ∷ 0 ∷ 0 ∷ 0 ∷ 0 ∷ 0 ∷ 0 ∷ 1 ∷ 0 ∷ 0 ∷ 0 ∷ []
-unfolding trailer bytesOf
-trailer-bytes-of-none = refl
 
 -- 258 records: 24,768 bytes before the trailer, then 258, then edition 1, each with its lowest byte first
 pub trailer-bytes : trailer 96 1 258 ≡ 192 ∷ 96 ∷ 0 ∷ 0 ∷ 0 ∷ 0 ∷ 0 ∷ 0 ∷ 2 ∷ 1 ∷ 0 ∷ 0 ∷ 1 ∷ 0 ∷ 0 ∷ 0 ∷ []

@@ -71,8 +71,8 @@ abbrev pub noTrailerField : Field (ℕ → ℕ)
 noTrailerField = field "" 0 0 (λ (n : ℕ). 0)
 
 -- the bytes of a field in the trailer of n records
-abbrev pub trailerBytes : ℕ → Field (ℕ → ℕ) → List ℕ
-trailerBytes n f = bytesOf (f .width) (f .source n)
+abbrev pub trailerFieldBytes : ℕ → Field (ℕ → ℕ) → List ℕ
+trailerFieldBytes n f = bytesOf (f .width) (f .source n)
 
 -- ── what it is to cover bytes, each once
 
@@ -87,7 +87,8 @@ pub record OneHas {S : Type 0} (fs : List (Field S)) (none : Field S) (i : ℕ) 
   pub has : Has (getD fs index none) i
   pub only : (k : ℕ) → k < length fs → Has (getD fs k none) i → k ≡ index
 
--- the first `size` bytes, and no other
+-- the first `size` bytes, each once, and no other; and every field has some
 pub record Cover {S : Type 0} (fs : List (Field S)) (none : Field S) (size : ℕ) : Type 0 where
   pub each-once : (i : ℕ) → i < size → OneHas fs none i
   pub inside : (k : ℕ) → k < length fs → let f = getD fs k none in f .offset + f .width ≤ size
+  pub wide : (k : ℕ) → k < length fs → 0 < getD fs k none .width
