@@ -2,7 +2,7 @@
 -- What worst then tells: `worst-told`. What file answers and leaves: `file-refused`, `file-accepted`; every byte of it, field by field and in plain numbers, is in `Left`.
 use mathlib.Core.Path.{_≡_, refl, sym, ap, _∙_}
 use mathlib.Core.List.{List}
-use Prim.Native.Nat.{ℕ, _+_, _*_, _-_, _≤_, _<_}
+use Prim.Native.Nat.{ℕ, _+_, _*_, _≤_, _<_}
 use native.Mathlib.Omega.{arith}
 use borrow.Author.Tests.{leb-false, eqb-false}
 use lib.ListN.{length}

@@ -1,4 +1,4 @@
--- What an accepted call leaves of the buffer b as b′: every byte of it, field by field and in plain numbers. A refused call leaves b.
+-- What an accepted call leaves of the buffer b as b′: every byte of it, field by field, and what empty writes and the case in one piece too. A refused call leaves b.
 -- That nothing is unsaid is `emptied-whole` and `filed-whole`.
 -- Paper 01, 'The archive': "Empty writes a trailer with n = 0 in the first 16 bytes", file "writes record and trailer and no other byte"; No. 3.
 use mathlib.Core.Path.{_≡_}

@@ -23,7 +23,7 @@ use Rattle.history.proofs.Lawful.{Lawful, worked-figures, direct-lawful
 use Rattle.history.proofs.Interface.{c-lawful}
 use Rattle.history.proofs.BytesLeft.{way-left, bytes-left, c-bytes-left}
 
-way-field : {W : Way} (l : Lawful W) (call : W .Call) (o : Offer) → W .seen call 0 [] .request ≡ file o [] → (n v : ℕ) → W .seen call 0 [] .answer ≡ filed 0 n v
+pub way-field : {W : Way} (l : Lawful W) (call : W .Call) (o : Offer) → W .seen call 0 [] .request ≡ file o [] → (n v : ℕ) → W .seen call 0 [] .answer ≡ filed 0 n v
     → (f : List ℕ) → W .WorkedOut (o .case) f → (k : ℕ) → k < length fields → FieldLeft (96 * n) (record { case = o .case; figures = f }) (W .seen call 0 [] .after) k
 way-field l call o q n v e f w k h = rw (worked-figures (l .worked (o .case) f w)) (way-left l call 0 [] .by-file o [] q n v e .1 .in-record k h)
 

@@ -14,7 +14,7 @@ use Rattle.records.specs.Fields.{Field, Has, OneHas, Cover}
 
 module _ {S : Type 0} (none : Field S) (size : ℕ) where
   -- the test: each field begins where the one before it ends, the first at p, and has some bytes, and the last ends at the size
-  abbrev inOrder : ℕ → List (Field S) → Bool
+  abbrev pub inOrder : ℕ → List (Field S) → Bool
   inOrder p [] = eqb p size
   inOrder p (f ∷ fs) = eqb (f .offset) p && (ltb 0 (f .width) && inOrder (p + f .width) fs)
 

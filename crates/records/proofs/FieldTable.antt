@@ -1,5 +1,5 @@
 -- The tables of fields cover record and trailer, each byte once: `fields-cover`, `trailer-fields-cover`, by one computed test of each (`Covering`).
--- In other terms: `fields-of-case`, `fields-read`, `figures-read`, the fields are those that a case is written by, and that are read of it and of a record; `trailer-fields-read`, of the trailer; `numbered-record`, `numbered-fields`, the record whose bytes are 1 to 96, and the names of its fields.
+-- In other terms: `fields-of-case`, `fields-read`, `figures-read`, the fields are those that a case is written by, and that are read of it and of a record; `trailer-fields-read`, of the trailer; `numbered-record`, `numbered-fields`, the record whose bytes are 1 to 96, with the names of its fields; `numbered-trailer`.
 -- A field of the table in the record of a line: `field-in-record`, with as many bytes as it is wide: `field-wide`; in the trailer of n records: `field-in-trailer`. Among figures: `figure-place`.
 -- Fields in what is written are in `FieldsWritten`.
 use mathlib.Core.Path.{_≡_, refl, sym, ap, _∙_}
@@ -91,6 +91,12 @@ pub numbered-fields : map {B = String × List ℕ} (λ (f : Field Source). (f .n
     ∷ []
 unfolding caseBytes bytesOf
 numbered-fields = refl
+
+-- the trailer of 258 records, whose bytes are those of `trailer-bytes`
+pub numbered-trailer : map {B = String × List ℕ} (λ (f : Field (ℕ → ℕ)). (f .name, trailerFieldBytes 258 f)) trailerFields
+    ≡ ("distance", 192 ∷ 96 ∷ 0 ∷ 0 ∷ 0 ∷ 0 ∷ 0 ∷ 0 ∷ []) ∷ ("number of records", 2 ∷ 1 ∷ 0 ∷ 0 ∷ []) ∷ ("edition", 1 ∷ 0 ∷ 0 ∷ 0 ∷ []) ∷ []
+unfolding bytesOf
+numbered-trailer = refl
 
 -- ── a field in the record of a line, and in the trailer
 
