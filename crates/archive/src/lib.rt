@@ -11,20 +11,20 @@ ghost use Rattle.archive.specs.Archive.{empty_answer, empty_bytes, emptying, fro
 use emission::work_out;
 use records::search;
 
-#[derive(Drop)]
+#[derive(Clone, Copy)]
 pub enum Emptied {
     Used(u64),
     Refused(u32),
 }
 
-#[derive(Drop)]
+#[derive(Clone, Copy)]
 pub enum Filing {
     Filed { number: u64, used: u64 },
     Refused(u32),
 }
 
 // The worst record.
-#[derive(Drop)]
+#[derive(Clone, Copy)]
 pub enum Highest {
     Number(u64),
     Refused(u32),
@@ -140,7 +140,7 @@ pub fn worst(archive: &[u8], used: u64, compartment: u64) -> Highest
 }
 
 // Whether bytes are a record, and its four figures. Where they are none, the figures are 0 and count as no result.
-#[derive(Drop)]
+#[derive(Clone, Copy)]
 pub struct RecordFigures {
     pub found: bool,
     pub figures: [u64; 4],

@@ -31,7 +31,7 @@ pub fn is_unsigned_finite(bits: u64) -> bool
 }
 
 // A pattern's exact value over 2^1074 is significand * 2^shift.
-#[derive(Drop)]
+#[derive(Clone, Copy)]
 pub struct Parts {
     pub significand: u64,
     pub shift: usize,

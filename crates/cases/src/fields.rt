@@ -10,7 +10,7 @@ use crate::numbers::{Read, number};
 use crate::words::{first, index_of};
 
 // Where a field stands, and its width; 0 where there is no such field.
-#[derive(Drop)]
+#[derive(Clone, Copy)]
 struct Place {
     at: usize,
     width: usize,

@@ -18,7 +18,7 @@ use octets::{u8_at, u64_at};
 use words::{first, index_of};
 
 // How many bytes of the buffer are the archive, and how many of these are used.
-#[derive(Drop)]
+#[derive(Clone, Copy)]
 struct State {
     size: u64,
     used: u64,

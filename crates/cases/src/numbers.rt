@@ -2,7 +2,7 @@
 ghost use Rattle.std.specs.Prelude.{◌≡◌, ◌≤◌, min};
 ghost use Rattle.cases.specs.Numbers.{digit_of, value_in, number_in};
 
-#[derive(Drop)]
+#[derive(Clone, Copy)]
 pub enum Read {
     Number(u64),
     Nothing,

@@ -100,7 +100,7 @@ pub fn work_out_into(case: &[u8], figures: &mut [u64; 4]) -> u32
     }
 }
 
-#[derive(Drop)]
+#[derive(Clone, Copy)]
 pub struct Worked {
     pub refusal: u32,
     pub figures: [u64; 4],

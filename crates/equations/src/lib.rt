@@ -76,7 +76,7 @@ pub fn sanitary(tonnage: f64, disintegrated: f64, water: f64, head: Head) -> u64
     remainder_up(disintegrated, &quantities, 200000000, 260)
 }
 
-#[derive(Drop)]
+#[derive(Clone, Copy)]
 pub struct Emissions {
     pub water: u64,
     pub air: u64,

@@ -24,7 +24,7 @@ fn loads_of(figures: [u64; 4]) -> [u8; 32]
 }
 
 // The loads of a record of zeros are zeros, as beside a refusal: the refusal, 0 for none, tells them apart.
-#[derive(Drop)]
+#[derive(Clone, Copy)]
 pub struct Exported {
     pub refusal: u32,
     pub loads: [u8; 32],

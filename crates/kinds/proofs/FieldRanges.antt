@@ -16,7 +16,7 @@ use lib.ListN.{length, get_or}
 use borrow.Author.Tests.{not-false, eqb-true, eqb-false, eq-eqb}
 use Rattle.octets.proofs.Bools.{both, all_below, all_below_lem}
 use Rattle.kinds.specs.Polymers.{polymers, usages_of, usage_at, is_missing}
-use Rattle.kinds.specs.Case.{row_of, user_of, count_of, pattern_at, of_six, quantity_of, Range, ◌to◌, within, Listing, unlisted, up_to, own_up_to, Kind, kinds, no_kind_lem, kind_at, row_unknown, route_not_allowed, user_not_allowed, usage_missing, count_not_allowed, sum_from}
+use Rattle.kinds.specs.Case.{row_of, user_of, count_of, pattern_at, of_six, quantity_of, Range, ◌to◌, within, Listing, unlisted, up_to, own_up_to, Kind, kinds, no_kind, kind_at, row_unknown, route_not_allowed, user_not_allowed, usage_missing, count_not_allowed, sum_from}
 use Rattle.kinds.specs.Ranges.{Between, ByRow, UpTo, ZeroBytes, OwnUpTo, AtMost1, NoSum, IsKind, Allows, allows, allows_nothing, allowed_by, Route, HasUsage}
 use Rattle.kinds.proofs.KindTable.{inside}
 
@@ -80,7 +80,7 @@ table_says b x =
     allows (In x.rows row) (In x.users (user_of b)) (ByRow row (In x.own_count (count_of b)) (In x.row_count (count_of b)))
     (says 0 × says 1 × says 2 × says 3 × says 4 × says 5) (SumSays x.summed (of_six (λ i. quantity_of (pattern_at b i))))
 
-there : (f : Kind → Allows) (xs : List Kind) (i : ℕ) → i < length xs → get_or (map f xs) i allows_nothing ≡ f (get_or xs i no_kind_lem)
+there : (f : Kind → Allows) (xs : List Kind) (i : ℕ) → i < length xs → get_or (map f xs) i allows_nothing ≡ f (get_or xs i no_kind)
 there f [] i h = absurd (omega arith)
 there f (x ∷ xs) zero h = refl
 there f (x ∷ xs) (suc i) h = there f xs i (le_of_suc-le-suc h)

@@ -10,7 +10,7 @@ use native.Mathlib.Omega.{arith}
 use lib.Dec.{leb, eqb}
 use lib.ListN.{length, get_or, get_or-eq_default}
 use borrow.Author.Tests.{leb-true, le-leb, eqb-true, eqb-false, ne_eqb}
-use Rattle.kinds.specs.Case.{Range, within, Kind, kinds, no_kind_lem, kind_at}
+use Rattle.kinds.specs.Case.{Range, within, Kind, kinds, no_kind, kind_at}
 use Rattle.kinds.specs.Ranges.{Between, IsKind}
 use Rattle.octets.proofs.Bools.{both}
 
@@ -35,9 +35,9 @@ pub beyond : {A : Type 0} (none : A) (xs : List A) (k : ℕ) → OtherThan (leng
 beyond none xs zero o = refl
 beyond none xs (suc k) o = get_or-eq_default (none ∷ xs) none (above (length xs) (suc k) (omega arith) o)
 
-pub no_kind_lem : (k : ℕ) → OtherThan (length kinds) k → kind_at k ≡ no_kind_lem
+pub no_kind_lem : (k : ℕ) → OtherThan (length kinds) k → kind_at k ≡ no_kind
 unfolding kind_at
-no_kind_lem = beyond no_kind_lem kinds
+no_kind_lem = beyond no_kind kinds
 
 -- from 1 to n
 abbrev pub Each : (ℕ → Type 0) → ℕ → Type 0
@@ -67,15 +67,15 @@ module _ (test : ℕ → Kind → Bool) where
   tests n [] = true
   tests n (x ∷ xs) = test n x && tests (suc n) xs
 
-  test_at : (xs : List Kind) (n : ℕ) → tests n xs ≡ true → ((k : ℕ) → test k no_kind_lem ≡ true) → (i : ℕ) → test (n + i) (get_or xs i no_kind_lem) ≡ true
+  test_at : (xs : List Kind) (n : ℕ) → tests n xs ≡ true → ((k : ℕ) → test k no_kind ≡ true) → (i : ℕ) → test (n + i) (get_or xs i no_kind) ≡ true
   unfolding tests
   test_at [] n e none i = none (n + i)
   test_at (x ∷ xs) n e none zero = rw add-zero (both (test n x) (tests (suc n) xs) e).0
   test_at (x ∷ xs) n e none (suc i) = rw (add-suc n i, ← suc-add n i) (test_at xs (suc n) (both (test n x) (tests (suc n) xs) e).1 none i)
 
-  pub tested : tests 0 (no_kind_lem ∷ kinds) ≡ true → ((k : ℕ) → test k no_kind_lem ≡ true) → (k : ℕ) → test k (kind_at k) ≡ true
+  pub tested : tests 0 (no_kind ∷ kinds) ≡ true → ((k : ℕ) → test k no_kind ≡ true) → (k : ℕ) → test k (kind_at k) ≡ true
   unfolding kind_at
-  tested e none k = rw zero-add at (test_at (no_kind_lem ∷ kinds) 0 e none k)
+  tested e none k = rw zero-add at (test_at (no_kind ∷ kinds) 0 e none k)
 
 empty : List ℕ → Bool
 empty [] = true

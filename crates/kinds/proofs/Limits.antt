@@ -12,7 +12,7 @@ use native.Mathlib.Omega.{arith}
 use borrow.Author.Tests.{eqb-true, not-true}
 use Rattle.binary64.specs.Quantity.{whole, one}
 use Rattle.binary64.proofs.Order.{limit_as_pattern}
-use Rattle.kinds.specs.Case.{exact_of, Listing, unlisted, Kind, kinds, no_kind_lem, kind_at, listing_at, listed, limit, not_zero_bytes, over_limit}
+use Rattle.kinds.specs.Case.{exact_of, Listing, unlisted, Kind, kinds, no_kind, kind_at, listing_at, listed, limit, not_zero_bytes, over_limit}
 use Rattle.kinds.specs.Patterns.{at, IsLimit, limit_pattern, limit_patterns}
 use Rattle.octets.proofs.Bools.{both, every, every_at}
 
@@ -39,7 +39,7 @@ right own l = is_limit own l (limit_pattern own l)
 
 table_right : (k : ℕ) → every (λ (l : Listing). right true l && right false l) (kind_at k).quantities ≡ true
 unfolding every right is_limit kind_at kinds limit_pattern whole of_int to_bits
-table_right = every_at (λ (x : Kind). every (λ (l : Listing). right true l && right false l) x.quantities) (no_kind_lem ∷ kinds) no_kind_lem refl refl
+table_right = every_at (λ (x : Kind). every (λ (l : Listing). right true l && right false l) x.quantities) (no_kind ∷ kinds) no_kind refl refl
 
 pub limits_right : (own : Bool) (k i : ℕ) → IsLimit own (listing_at k i) (at (limit_patterns own (kind_at k).quantities) i)
 unfolding right limit_pattern

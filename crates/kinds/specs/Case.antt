@@ -110,13 +110,13 @@ kinds =
     ∷ []
 
 -- a kind that is not there allows nothing
-abbrev pub no_kind_lem : Kind
-no_kind_lem = kind (1 to 0) (1 to 0) (1 to 0) (1 to 0) (unlisted ∷ unlisted ∷ unlisted ∷ unlisted ∷ unlisted ∷ unlisted ∷ []) []
+abbrev pub no_kind : Kind
+no_kind = kind (1 to 0) (1 to 0) (1 to 0) (1 to 0) (unlisted ∷ unlisted ∷ unlisted ∷ unlisted ∷ unlisted ∷ unlisted ∷ []) []
 
 -- kinds are numbered from 1
 unfoldable pub kind_at : ℕ → Kind
 unfolding kinds
-kind_at k = get_or (no_kind_lem ∷ kinds) k no_kind_lem
+kind_at k = get_or (no_kind ∷ kinds) k no_kind
 
 abbrev pub counts_at : ℕ → ℕ → Range
 counts_at k row = cond (eqb row 0) (kind_at k).own_count (kind_at k).row_count

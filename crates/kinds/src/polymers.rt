@@ -3,7 +3,7 @@ ghost use Rattle.std.specs.Prelude.{◌≡◌};
 ghost use Rattle.kinds.specs.Polymers.{usages_of, usage_at};
 
 // Tonnes per year, where the table has them.
-#[derive(Drop)]
+#[derive(Clone, Copy)]
 pub enum Usage {
     NoUsage,
     Tonnes(u32),

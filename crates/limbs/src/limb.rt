@@ -2,14 +2,14 @@
 ghost use Rattle.std.specs.Prelude.{◌≡◌, ◌+◌, ◌*◌, ◌/◌, ◌%◌, ◌^◌, ◌≤◌, ◌<◌};
 
 // A limb of a result, and what is carried to the next limb worked on: a carry, a borrow or a remainder.
-#[derive(Drop)]
+#[derive(Clone, Copy)]
 pub struct Digit {
     pub limb: u32,
     pub carry: u32,
 }
 
 // The same where a carry takes two limbs.
-#[derive(Drop)]
+#[derive(Clone, Copy)]
 pub struct Column {
     pub limb: u32,
     pub carry: u64,

@@ -21,7 +21,7 @@ const HEADER_SIZE: usize = 46;
 const REFUSAL_SIZE: usize = 11;
 
 // The length of the listing, and whether it was written.
-#[derive(Drop)]
+#[derive(Clone, Copy)]
 pub enum Listed {
     Written(u64),
     Needs(u64),

@@ -9,7 +9,7 @@ use binary64::pattern::{parts_of, pattern_of};
 use starts::larger;
 
 // A quantity as significand / 2^depth.
-#[derive(Drop)]
+#[derive(Clone, Copy)]
 struct Dyadic {
     significand: u64,
     depth: usize,
@@ -38,7 +38,7 @@ fn times(limbs: &mut [u32], n: usize, f: u64) -> usize
 }
 
 // The number in the first `count` limbs, over 2^depth.
-#[derive(Drop)]
+#[derive(Clone, Copy)]
 struct Product {
     count: usize,
     depth: usize,

@@ -12,7 +12,7 @@ use lib.Seq.{get_or-drop}
 use Rattle.octets.specs.Bytes.{AreBytes, number_of, number_at}
 use Rattle.kinds.specs.Case.{kind_of, row_of, route_of, user_of, dossier_of}
 use Rattle.records.specs.Layout.{no_line, case_size, bytes_at, record_at, line_of, first_lines}
-use Rattle.records.specs.Lines.{same_bytes_lem, same_filing}
+use Rattle.records.specs.Lines.{same_bytes, same_filing}
 use Rattle.records.proofs.RecordLaws.{part_take, part_part}
 use Rattle.records.proofs.Writing.{first_four}
 use Rattle.records.proofs.LinesFrom.{record_inside, line_at}
@@ -25,17 +25,17 @@ digit x y a b true false e f hx hy = ne_eqb (x + 256 * a) (y + 256 * b) (λ h. e
 digit x y a b false q e f hx hy = ne_eqb (x + 256 * a) (y + 256 * b) (λ h. eqb-false x y e (omega arith))
 
 same_front : (k : ℕ) (xs ys : List ℕ) → AreBytes xs → AreBytes ys → k ≤ length xs → k ≤ length ys
-    → eqb (number_of (take k xs)) (number_of (take k ys)) ≡ same_bytes_lem (take k xs) (take k ys)
+    → eqb (number_of (take k xs)) (number_of (take k ys)) ≡ same_bytes (take k xs) (take k ys)
 unfolding number_of
 same_front zero xs ys bx by hx hy = refl
 same_front (suc k) [] ys bx by hx hy = absurd (omega arith)
 same_front (suc k) (x ∷ xs) [] bx by hx hy = absurd (omega arith)
 same_front (suc k) (x ∷ xs) (y ∷ ys) bx by hx hy =
-    digit x y (number_of (take k xs)) (number_of (take k ys)) (eqb x y) (same_bytes_lem (take k xs) (take k ys)) refl
+    digit x y (number_of (take k xs)) (number_of (take k ys)) (eqb x y) (same_bytes (take k xs) (take k ys)) refl
     (same_front k xs ys (λ i. bx (suc i)) (λ i. by (suc i)) (omega arith) (omega arith)) (bx zero) (by zero)
 
 same_part : (b c : List ℕ) (i j k : ℕ) → AreBytes b → AreBytes c → i + k ≤ length b → j + k ≤ length c
-    → eqb (number_at b i k) (number_at c j k) ≡ same_bytes_lem (bytes_at b i k) (bytes_at c j k)
+    → eqb (number_at b i k) (number_at c j k) ≡ same_bytes (bytes_at b i k) (bytes_at c j k)
 unfolding number_at
 same_part b c i j k bb bc hb hc =
     same_front k (drop i b) (drop j c) (λ n. rw get_or-drop (bb (i + n))) (λ n. rw get_or-drop (bc (j + n))) (rw length-drop (omega arith)) (rw length-drop (omega arith))

@@ -5,15 +5,15 @@ use Rattle.records.specs.Layout.{Line, no_line, bytes_at}
 
 -- ── held
 
-abbrev pub same_bytes_lem : List ℕ → List ℕ → Bool
-same_bytes_lem [] [] = true
-same_bytes_lem [] (y ∷ ys) = false
-same_bytes_lem (x ∷ xs) [] = false
-same_bytes_lem (x ∷ xs) (y ∷ ys) = eqb x y && same_bytes_lem xs ys
+abbrev pub same_bytes : List ℕ → List ℕ → Bool
+same_bytes [] [] = true
+same_bytes [] (y ∷ ys) = false
+same_bytes (x ∷ xs) [] = false
+same_bytes (x ∷ xs) (y ∷ ys) = eqb x y && same_bytes xs ys
 
 -- The same filing, the paper's term: the head without T, and the dossier number.
 unfoldable pub same_filing : List ℕ → List ℕ → Bool
-same_filing c d = same_bytes_lem (bytes_at c 0 4) (bytes_at d 0 4) && same_bytes_lem (bytes_at c 8 8) (bytes_at d 8 8)
+same_filing c d = same_bytes (bytes_at c 0 4) (bytes_at d 0 4) && same_bytes (bytes_at c 8 8) (bytes_at d 8 8)
 
 -- held, the paper's term
 unfoldable pub held : List Line → List ℕ → Bool

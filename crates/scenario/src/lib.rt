@@ -12,7 +12,7 @@ mod fields;
 mod quantities;
 
 // Row 0 of the city kinds: area in m2, volume in L/m2, density in kg/m3. Zero with the other rows.
-#[derive(Drop)]
+#[derive(Clone, Copy)]
 pub struct Site {
     pub area: f64,
     pub volume: f64,
@@ -20,7 +20,7 @@ pub struct Site {
 }
 
 // Kinds 1 to 8, each with its own quantities.
-#[derive(Drop)]
+#[derive(Clone, Copy)]
 pub enum Case {
     // A city, by measured leaching in kg/m2: early, in 30 days, and late, after them; and the share of the market.
     Measured {
@@ -79,7 +79,7 @@ pub enum Case {
 }
 
 // What stands before the quantities, without the kind.
-#[derive(Drop)]
+#[derive(Clone, Copy)]
 pub struct Head {
     pub row: u8,
     pub route: u8,
@@ -88,7 +88,7 @@ pub struct Head {
     pub dossier: u64,
 }
 
-#[derive(Drop)]
+#[derive(Clone, Copy)]
 pub enum Decoded {
     Accepted { head: Head, case: Case },
     Refused(u32),

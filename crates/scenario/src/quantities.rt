@@ -26,7 +26,7 @@ pub fn patterns_at(case: &[u8]) -> [u64; 6]
 }
 
 // Whether refusals 8, 9 and 10 hold: no number from 0 on, unlisted and not zero bytes, over its limit.
-#[derive(Drop)]
+#[derive(Clone, Copy)]
 pub struct Faults {
     pub invalid: bool,
     pub stray: bool,

@@ -4,7 +4,4 @@ use Rattle.octets.proofs.put_bytes.Goals as goal
 
 pub returns : goal.returns
 returns = λ c.
-    let p = c in
-    let w = p in
-    let s = w in
-    copied_rest _ _ _ _ s.requires w.put_words-n.ensures.1 w.put_words-n.ensures.0 p.put_singly.ensures
+    copied_rest _ _ _ _ c.requires c.put_words-n.ensures.1 c.put_words-n.ensures.0 c.put_singly.ensures

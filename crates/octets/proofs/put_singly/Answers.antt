@@ -23,7 +23,7 @@ pub loop-i-smaller : goal.loop-i-smaller
 loop-i-smaller c = omega arith
 
 pub loop-i-preserved : goal.loop-i-preserved
-loop-i-preserved c = let p = c in copied_more 1 p.loop-i.invariant (omega arith) p.u8_at.ensures p.put_u8.ensures
+loop-i-preserved c = copied_more 1 c.loop-i.invariant (omega arith) c.u8_at.ensures c.put_u8.ensures
 
 pub shape_of-b : goal.shape_of-b
 shape_of-b c = c.loop-i.invariant.long

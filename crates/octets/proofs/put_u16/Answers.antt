@@ -5,6 +5,4 @@ use Rattle.octets.proofs.put_u16.Goals as goal
 
 pub returns : goal.returns
 returns = λ c.
-    let s = c in
-    let f = s in
-    put_halves _ _ 1 1 _ (omega arith) f.put_u8.ensures s.put_u8-2.ensures
+    put_halves _ _ 1 1 _ (omega arith) c.put_u8.ensures c.put_u8-2.ensures

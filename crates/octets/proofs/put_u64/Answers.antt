@@ -5,6 +5,4 @@ use Rattle.octets.proofs.put_u64.Goals as goal
 
 pub returns : goal.returns
 returns = λ c.
-    let s = c in
-    let f = s in
-    put_halves _ _ 4 4 _ (omega arith) f.put_u32.ensures s.put_u32-2.ensures
+    put_halves _ _ 4 4 _ (omega arith) c.put_u32.ensures c.put_u32-2.ensures

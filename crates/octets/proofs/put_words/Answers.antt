@@ -26,7 +26,7 @@ pub loop-i-smaller : goal.loop-i-smaller
 loop-i-smaller c = omega arith
 
 pub loop-i-preserved : goal.loop-i-preserved
-loop-i-preserved c = let p = c in copied_more 8 p.loop-i.invariant (omega arith) p.u64_at.ensures p.put_u64.ensures
+loop-i-preserved c = copied_more 8 c.loop-i.invariant (omega arith) c.u64_at.ensures c.put_u64.ensures
 
 pub shape_of-b : goal.shape_of-b
 shape_of-b c = c.loop-i.invariant.long

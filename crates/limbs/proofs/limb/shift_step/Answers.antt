@@ -6,9 +6,7 @@ use Rattle.limbs.proofs.limb.shift_step.Goals as goal
 
 pub returns : goal.returns
 returns c =
-    let p = c in
-    let a = p in
-    shifted _ _ _ _ _ _ a.wide.ensures.0 p.wide-2.ensures.0 (c.wide-p.ensures.0 ∙ p.power.ensures)
+    shifted _ _ _ _ _ _ c.wide.ensures.0 c.wide-2.ensures.0 (c.wide-p.ensures.0 ∙ c.power.ensures)
 
 pub overflow_cast-result-2 : goal.overflow_cast-result-2
 overflow_cast-result-2 c = record { fits = shift_fits _ _ _ (omega arith) (omega arith) }

@@ -19,7 +19,7 @@ pub bounds-limbs-n : goal.bounds-limbs-n
 bounds-limbs-n c = omega arith
 
 pub returns-then-limbs-n-ne0 : goal.returns-then-limbs-n-ne0
-returns-then-limbs-n-ne0 c = let b = c in (b.loop-n.invariant.0, b.loop-n.invariant.1, λ h. let t = c.if-limbs-n-ne0.true in omega arith)
+returns-then-limbs-n-ne0 c = (c.loop-n.invariant.0, c.loop-n.invariant.1, λ h. let t = c.if-limbs-n-ne0.true in omega arith)
 
 pub overflow_sub-n-in-loop-n : goal.overflow_sub-n-in-loop-n
 overflow_sub-n-in-loop-n c = omega arith
@@ -28,7 +28,7 @@ pub loop-n-smaller : goal.loop-n-smaller
 loop-n-smaller c = omega arith
 
 pub loop-n-preserved : goal.loop-n-preserved
-loop-n-preserved c = let b = c in (omega arith, use-again _ b.loop-n.n (omega arith) (omega arith) c.if-limbs-n-ne0.false b.loop-n.invariant.1)
+loop-n-preserved c = (omega arith, use-again _ c.loop-n.n (omega arith) (omega arith) c.if-limbs-n-ne0.false c.loop-n.invariant.1)
 
 pub returns : goal.returns
 returns c = (c.loop-n.invariant.0, c.loop-n.invariant.1, λ h. let t = c.loop-n-test.false in omega arith)

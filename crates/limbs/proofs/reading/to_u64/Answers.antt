@@ -9,9 +9,8 @@ use Rattle.limbs.proofs.reading.to_u64.Goals as goal
 
 pub returns-then-is_zero : goal.returns-then-is_zero
 returns-then-is_zero c =
-    let t = c in
-    let l = t.args.limbs.now in
-    let z = zero_of (value (take (length l - 2) (drop 2 l))) (sym t.if-is_zero.true ∙ t.is_zero.ensures) in
+    let l = c.args.limbs.now in
+    let z = zero_of (value (take (length l - 2) (drop 2 l))) (sym c.if-is_zero.true ∙ c.is_zero.ensures) in
     omega (arith, number_more l (omega arith))
 
 pub returns : goal.returns

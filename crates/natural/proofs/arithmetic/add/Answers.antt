@@ -6,9 +6,7 @@ use Rattle.natural.proofs.arithmetic.add.Goals as goal
 
 pub returns : goal.returns
 returns c =
-    let above = c in
-    let below = above in
-    (add_parts _ below.add_same-carry.new.limbs above.add_carry.new.limbs _ _ below.add_same-carry.result above.add_carry.result below.requires below.add_same-carry.auto.limbs below.add_same-carry.ensures.0 above.add_carry.ensures.0, above.add_carry.ensures.1)
+    (add_parts _ c.add_same-carry.new.limbs c.add_carry.new.limbs _ _ c.add_same-carry.result c.add_carry.result c.requires c.add_same-carry.auto.limbs c.add_same-carry.ensures.0 c.add_carry.ensures.0, c.add_carry.ensures.1)
 
 pub slice_bounds-add_same-end-2 : goal.slice_bounds-add_same-end-2
 slice_bounds-add_same-end-2 c = sym (length-take-le _ _ c.requires)

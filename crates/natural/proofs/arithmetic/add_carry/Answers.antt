@@ -3,9 +3,8 @@ use Prim.Native.Nat.{◌≤◌}
 use native.Mathlib.Omega.{arith}
 use Rattle.natural.proofs.Carry.{carried_one}
 use Rattle.natural.proofs.arithmetic.add_carry.Goals as goal
-use Rattle.natural.proofs.arithmetic.add_carry.Goals.{After-times_add}
 
-small : (c : After-times_add) → c.times_add.result ≤ 1
+small : (c : goal.After-slice_known-2-1) → c.times_add.result ≤ 1
 small c = carried_one _ _ _ (λ i. (c.slice_known-1.given i).fits) c.times_add.ensures
 
 pub overflow_cast-result : goal.overflow_cast-result

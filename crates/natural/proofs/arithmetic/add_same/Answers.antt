@@ -52,8 +52,7 @@ loop-i-smaller c = simp length-set (omega arith)
 pub loop-i-preserved : goal.loop-i-preserved
 unfolding value
 loop-i-preserved = λ c.
-    let b = c in
-    (carried_again b.loop-i.carry _ _ _ _ b.loop-i.invariant.0 (omega arith) (c.add_step-s.ensures.0 ∙ omega arith) (value_next b.args.other.now b.loop-i.i (omega arith)), c.add_step-s.ensures.1)
+    (carried_again c.loop-i.carry _ _ _ _ c.loop-i.invariant.0 (omega arith) (c.add_step-s.ensures.0 ∙ omega arith) (value_next c.args.other.now c.loop-i.i (omega arith)), c.add_step-s.ensures.1)
 
 pub shape_of-limbs : goal.shape_of-limbs
 unfolding value
@@ -62,6 +61,5 @@ shape_of-limbs c = c.loop-i.invariant.0.long
 pub returns : goal.returns
 unfolding value
 returns = λ c.
-    let b = c in
-    let e = ap value (take_all b.loop-i.i b.args.other.now (omega arith)) in
-    (omega (arith, carried_end b.loop-i.carry b.loop-i.invariant.0 c.loop-i-test.false), b.loop-i.invariant.1)
+    let e = ap value (take_all c.loop-i.i c.args.other.now (omega arith)) in
+    (omega (arith, carried_end c.loop-i.carry c.loop-i.invariant.0 c.loop-i-test.false), c.loop-i.invariant.1)

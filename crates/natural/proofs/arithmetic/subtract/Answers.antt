@@ -6,9 +6,7 @@ use Rattle.natural.proofs.arithmetic.subtract.Goals as goal
 
 pub returns : goal.returns
 returns c =
-    let above = c in
-    let below = above in
-    (subtract_parts _ below.subtract_same-borrow.new.limbs above.subtract_borrow.new.limbs _ _ below.subtract_same-borrow.result above.subtract_borrow.result below.requires below.subtract_same-borrow.auto.limbs below.subtract_same-borrow.ensures.0 above.subtract_borrow.ensures.0, above.subtract_borrow.ensures.1)
+    (subtract_parts _ c.subtract_same-borrow.new.limbs c.subtract_borrow.new.limbs _ _ c.subtract_same-borrow.result c.subtract_borrow.result c.requires c.subtract_same-borrow.auto.limbs c.subtract_same-borrow.ensures.0 c.subtract_borrow.ensures.0, c.subtract_borrow.ensures.1)
 
 pub slice_bounds-subtract_same-end-2 : goal.slice_bounds-subtract_same-end-2
 slice_bounds-subtract_same-end-2 c = sym (length-take-le _ _ c.requires)

@@ -1,0 +1,40 @@
+-- The larger shift says how many limbs are worked on.
+use mathlib.Core.Path.{◌≡◌, sym, ap, ◌∙◌}
+use mathlib.Core.List.{◌++◌}
+use Prim.Native.Nat.{ℕ, ◌+◌, ◌*◌, ◌/◌, ◌^◌}
+use native.Mathlib.Omega.{arith}
+use lib.ListN.{take, drop}
+use lib.Seq.{length-take-le, length_front}
+use Rattle.limbs.specs.Value.{value}
+use Rattle.limbs.proofs.Value.{value_front}
+use Rattle.limbs.proofs.Held.{use-part}
+use Rattle.limbs.proofs.Value.{front_stays}
+use Rattle.starts.proofs.sum.Goals as goal
+
+-- the first limbs are as many as were worked on
+pub slice_bounds-in_use-end-2 : goal.slice_bounds-in_use-end-2
+slice_bounds-in_use-end-2 c =
+    sym (length-take-le _ _ (omega (arith, length_front c.args.limbs.now c.lay_sum.new.limbs (c.larger.result / 32 + 3) c.lay_sum.auto.limbs)))
+
+pub returns : goal.returns
+returns c =
+    let p = c.args in
+    let l = p.limbs.now in
+    let e = c.lay_sum.new.limbs in
+    let n = c.larger.result / 32 + 3 in
+    let k = length_front l e n c.lay_sum.auto.limbs in
+    let u = use-part (e ++ drop n l) n c.in_use.result (omega arith) c.in_use.ensures in
+    let f : value (take n (e ++ drop n l)) ≡ p.x * 2 ^ p.s + p.y * 2 ^ p.t = (value_front l e n (omega arith) c.lay_sum.auto.limbs).0 ∙ c.lay_sum.ensures in
+    let o = ap (λ (z : ℕ). z / 32 + 3) c.larger.ensures in (
+      u.0 ∙ f,
+      omega arith,
+      u.2,
+      ap (λ (z : ℕ). value (take z (e ++ drop n l))) (sym o) ∙ f,
+      ap (λ (z : ℕ). drop z (e ++ drop n l)) (sym o) ∙ front_stays l e n n (omega arith) c.lay_sum.auto.limbs (omega arith) ∙ ap (λ (z : ℕ). drop z l) o,
+    )
+
+pub slice_bounds-lay_sum-end-2 : goal.slice_bounds-lay_sum-end-2
+slice_bounds-lay_sum-end-2 c = sym (length-take-le _ _ (omega arith))
+
+pub lay_sum-requires : goal.lay_sum-requires
+lay_sum-requires c = rw (length-take-le (c.larger.result / 32 + 3) c.args.limbs.now (omega arith)) (omega arith, omega arith)
