@@ -1,0 +1,38 @@
+-- By kind; the last arm is kind 8.
+use borrow.Author.Tests.{ne_eqb}
+use Rattle.scenario.specs.Decoding.{case_with}
+use Rattle.scenario.proofs.case_with.Goals as goal
+
+pub returns-in-1 : goal.returns-in-1
+unfolding case_with
+returns-in-1 c = rw c.in-1.is
+
+pub returns-in-2 : goal.returns-in-2
+unfolding case_with
+returns-in-2 c = rw c.in-2.is
+
+pub returns-in-3 : goal.returns-in-3
+unfolding case_with
+returns-in-3 c = rw c.in-3.is
+
+pub returns-in-4 : goal.returns-in-4
+unfolding case_with
+returns-in-4 c = rw c.in-4.is
+
+pub returns-in-5 : goal.returns-in-5
+unfolding case_with
+returns-in-5 c = rw c.in-5.is
+
+pub returns-in-6 : goal.returns-in-6
+unfolding case_with
+returns-in-6 c = rw c.in-6.is
+
+pub returns-in-7 : goal.returns-in-7
+unfolding case_with
+returns-in-7 c = rw c.in-7.is
+
+pub returns-in_default : goal.returns-in_default
+unfolding case_with
+returns-in_default = λ c.
+    let r = c.in_default.in_default-own.rest in
+    rw (ne_eqb _ _ r.0.0.0.0.0.0.1, ne_eqb _ _ r.0.0.0.0.0.1, ne_eqb _ _ r.0.0.0.0.1, ne_eqb _ _ r.0.0.0.1, ne_eqb _ _ r.0.0.1, ne_eqb _ _ r.0.1, ne_eqb _ _ r.1)
