@@ -1,0 +1,51 @@
+-- Row 0: the chain with the case's own quantities; otherwise the row's constant, by the table.
+use mathlib.Core.Path.{refl}
+use mathlib.Core.List.{List, [], ◌∷◌}
+use Prim.Native.Nat.{ℕ}
+use native.Mathlib.Omega.{arith}
+use borrow.Author.Tests.{eq-eqb, ne_eqb}
+use Rattle.equations.specs.Rows.{hygiene_at}
+use Rattle.product.specs.Chain.{quantity}
+use Rattle.equations.specs.Equations.{consumption, consumption_at, emitted}
+use Rattle.equations.specs.Ranges.{Within, InRange}
+use Rattle.equations.specs.Constants.{numbers}
+use Rattle.equations.proofs.Chains.{others}
+use Rattle.equations.proofs.Multiplied.{term, product_of, chain_at_most, figure, small, within_each}
+use Rattle.equations.proofs.Tables.{figure_at_lem}
+use Rattle.equations.proofs.consumption.Goals as goal
+
+-- with row 0: share, uses, grams, active, penetration
+abbrev limits : List ℕ
+limits = 1 ∷ 100 ∷ 10000 ∷ 1 ∷ 1 ∷ []
+
+pub product_up-requires : goal.product_up-requires
+unfolding InRange small
+product_up-requires c = (omega arith, omega arith, within_each _ limits refl c.requires.1)
+
+pub returns-then-head-eq0 : goal.returns-then-head-eq0
+unfolding InRange emitted numbers others product_of
+returns-then-head-eq0 c =
+    let a = c.args in
+    let l = term (consumption a.active a.penetration (quantity a.grams) (quantity a.uses) (quantity a.share)) in
+    rw (eq-eqb a.head.row 0 c.if-head-eq0.true)
+    (figure l _ _ _ _ _ c.product_up.ensures refl (omega arith) (omega arith) refl (chain_at_most _ limits c.requires.1) (omega arith))
+
+pub bounds-constants-at : goal.bounds-constants-at
+unfolding InRange
+bounds-constants-at c = let h = c.requires.0 in omega arith
+
+pub product_up-requires-2 : goal.product_up-requires-2
+unfolding InRange Within small
+product_up-requires-2 c =
+    let w = c.requires.1 in
+    (omega arith, omega arith, within_each _ (1 ∷ 1 ∷ []) refl w.1.1.1)
+
+pub returns : goal.returns
+unfolding InRange Within emitted others product_of
+returns c =
+    let a = c.args in
+    let n = c.if-head-eq0.false in
+    let h = c.requires.0 in
+    rw (ne_eqb a.head.row 0 n)
+    (figure_at_lem (λ row. term (consumption_at a.active a.penetration (hygiene_at row))) _ _ a.head.row _ _ _ _ c.product_up-2.ensures (c.consumption_constants-constants.ensures a.active a.penetration)
+    (omega (arith, c.consumption_constants-constants.type_inv)) (omega arith) refl (omega arith) (chain_at_most (a.active ∷ a.penetration ∷ []) (1 ∷ 1 ∷ []) c.requires.1.1.1.1) (omega arith))

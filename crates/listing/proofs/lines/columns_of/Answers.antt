@@ -1,0 +1,7 @@
+-- Each column is read where the record has it.
+use Rattle.listing.proofs.Columns.{columns_read}
+use Rattle.listing.proofs.lines.columns_of.Goals as goal
+
+pub returns : goal.returns
+returns c =
+    columns_read _ _ c.figures_at-figures.ensures c.u64_at.ensures c.u8_at.ensures c.u8_at-2.ensures c.u8_at-3.ensures c.milligrams.ensures c.milligrams-2.ensures c.milligrams-3.ensures c.milligrams-4.ensures
