@@ -8,7 +8,7 @@
 --   refusal_first, refused_no_figure   demand 1: the refusal is the first condition that holds, and beside one stand zeros
 --   result_exactly      there is none exactly when the case is within the ranges, in plain numbers
 -- That no lower number is 0 is in Positive.
-use mathlib.Core.Path.{◌≡◌, sym, ◌∙◌}
+use mathlib.Core.Path.{◌≡◌, sym, ◌∙◌, subst}
 use mathlib.Core.List.{List, [], ◌∷◌, map}
 use Prim.Native.Nat.{ℕ, ◌+◌, ◌*◌, ◌^◌, ◌≤◌, ◌<◌}
 use native.Mathlib.Nat.{mul-le-mul_right}
@@ -73,7 +73,8 @@ figure_exact c e = c.kept.1 ∙ figures_exact (bytes c) (sym c.kept.0 ∙ e)
 
 -- at any margin
 pub figure_bounds_at : (m : ℕ) (c : WorkOutCall) → c.result.refusal ≡ 0 → (i : ℕ) → i < 4 → WithinBounds m (get_or (exact_values (bytes c)) i (0 over 1)) (get_or c.result.figures i 0)
-figure_bounds_at m c e i h = rw c.kept.1 (figures_within_at m (bytes c) (sym c.kept.0 ∙ e) i h)
+figure_bounds_at m c e i h =
+    subst (λ (fs : List ℕ). WithinBounds m (get_or (exact_values (bytes c)) i (0 over 1)) (get_or fs i 0)) (sym c.kept.1) (figures_within_at m (bytes c) (sym c.kept.0 ∙ e) i h)
 
 pub figure_bounds : (c : WorkOutCall) → c.result.refusal ≡ 0 → (i : ℕ) → i < 4 → WithinBounds margin (get_or (exact_values (bytes c)) i (0 over 1)) (get_or c.result.figures i 0)
 figure_bounds = figure_bounds_at margin
