@@ -1,11 +1,11 @@
 -- An answer or a state by the refusal: `accepted_same`, `accepted_map`, `accepted_refused`, `told_as`; two effects that agree tell the same, `same_answer`.
--- What the functions of this crate say, by their effect: `of_emptying`, `of_filing`, `of_showing`, `of_naming`.
+-- What the functions of this crate say, by their effect: `of_emptying`, `of_filing_lem`, `of_showing`, `of_naming`.
 use mathlib.Core.Path.{◌≡◌, refl, ap}
 use mathlib.Core.List.{List, []}
 use Prim.Native.Nat.{ℕ, zero, suc}
 use Rattle.archive.specs.Conditions.{accepted}
 use Rattle.archive.specs.Offers.{Offer}
-use Rattle.archive.specs.Answers.{Places, part, Answer, answering, shown, ofEmptied, ofFiling, ofHighest, Effect, refusalBy, answerBy}
+use Rattle.archive.specs.Answers.{Places, part, Answer, answering, shown, of_emptied, of_filing, of_highest, Effect, refusal_by, answer_by}
 use Rattle.archive.specs.Archive.{empty_refusal, empty_answer, emptying, file_refusal, file_answer, filing, show_effect, show_refusal, show_part, worst_refusal, worst_answer, naming}
 
 -- ── by the refusal
@@ -27,8 +27,8 @@ pub told_as : {E : Type 0} (of : E → Answer) (r : ℕ) (x y : E) (p q : Places
 told_as of zero x y p q e f = e
 told_as of (suc r) x y p q e f = f
 
-pub same_answer : {S T : Type 0} (e : Effect S) (f : Effect T) → refusalBy e ≡ refusalBy f → (refusalBy f ≡ 0 → e.gives ≡ f.gives) → e.beside ≡ f.beside → answerBy e ≡ answerBy f
-same_answer e f q g s = rw q (ap (answering (refusalBy f)) (go (refusalBy f) g))
+pub same_answer : {S T : Type 0} (e : Effect S) (f : Effect T) → refusal_by e ≡ refusal_by f → (refusal_by f ≡ 0 → e.gives ≡ f.gives) → e.beside ≡ f.beside → answer_by e ≡ answer_by f
+same_answer e f q g s = rw q (ap (answering (refusal_by f)) (go (refusal_by f) g))
   where
     go : (r : ℕ) → (r ≡ 0 → e.gives ≡ f.gives) → accepted r e.gives e.beside ≡ accepted r f.gives f.beside
     go zero h = h refl
@@ -36,18 +36,18 @@ same_answer e f q g s = rw q (ap (answering (refusalBy f)) (go (refusalBy f) g))
 
 -- ── of the calls
 
-pub of_emptying : (b : List ℕ) → ofEmptied (emptying b) ≡ empty_answer b
+pub of_emptying : (b : List ℕ) → of_emptied (emptying b) ≡ empty_answer b
 unfolding emptying
-of_emptying b = told_as ofEmptied (empty_refusal b) _ _ _ _ refl refl
+of_emptying b = told_as of_emptied (empty_refusal b) _ _ _ _ refl refl
 
-pub of_filing : (b : List ℕ) (u : ℕ) (o : Offer) → ofFiling (filing b u o) u ≡ file_answer b u o
+pub of_filing_lem : (b : List ℕ) (u : ℕ) (o : Offer) → of_filing (filing b u o) u ≡ file_answer b u o
 unfolding filing
-of_filing b u o = told_as (λ a. ofFiling a u) (file_refusal b u o) _ _ _ _ refl refl
+of_filing_lem b u o = told_as (λ a. of_filing a u) (file_refusal b u o) _ _ _ _ refl refl
 
-pub of_showing : (b : List ℕ) (u k : ℕ) → shown (show_refusal b u k) (show_part b u k) ≡ answerBy (show_effect b u k)
+pub of_showing : (b : List ℕ) (u k : ℕ) → shown (show_refusal b u k) (show_part b u k) ≡ answer_by (show_effect b u k)
 unfolding show_part
 of_showing b u k = ap (answering (show_refusal b u k)) (accepted_map part (show_refusal b u k) _ [])
 
-pub of_naming : (b : List ℕ) (u m : ℕ) → ofHighest (naming b u m) ≡ worst_answer b u m
+pub of_naming : (b : List ℕ) (u m : ℕ) → of_highest (naming b u m) ≡ worst_answer b u m
 unfolding naming
-of_naming b u m = told_as ofHighest (worst_refusal b u m) _ _ _ _ refl refl
+of_naming b u m = told_as of_highest (worst_refusal b u m) _ _ _ _ refl refl

@@ -39,31 +39,31 @@ named r k = answering r (line k)
 
 -- ── of each enum
 
-abbrev pub ofEmptied : Emptied → Answer
-ofEmptied (Used v) = emptied 0 v
-ofEmptied (Refused r) = emptied r 0
+abbrev pub of_emptied : Emptied → Answer
+of_emptied (Used v) = emptied 0 v
+of_emptied (Refused r) = emptied r 0
 
 -- of a filing that was given the used length u
-abbrev pub ofFiling : Filing → ℕ → Answer
-ofFiling (Filed k v) u = filed 0 k v
-ofFiling (NotFiled r) u = filed r 0 u
+abbrev pub of_filing : Filing → ℕ → Answer
+of_filing (Filed k v) u = filed 0 k v
+of_filing (NotFiled r) u = filed r 0 u
 
-abbrev pub ofHighest : Highest → Answer
-ofHighest (Number k) = named 0 k
-ofHighest (NotNamed r) = named r 0
+abbrev pub of_highest : Highest → Answer
+of_highest (Number k) = named 0 k
+of_highest (NotNamed r) = named r 0
 
 -- ── the used length
 
 -- the one among the places, and u where there is none
-abbrev pub usedIn : Places → ℕ → ℕ
-usedIn (start v) u = v
-usedIn (entry k v) u = v
-usedIn (part p) u = u
-usedIn (line k) u = u
+abbrev pub used_in : Places → ℕ → ℕ
+used_in (start v) u = v
+used_in (entry k v) u = v
+used_in (part p) u = u
+used_in (line k) u = u
 
 -- The one that the next call is given, where this one was given u.
 abbrev pub handed : Answer → ℕ → ℕ
-handed a u = accepted a.refusal (usedIn a.places u) u
+handed a u = accepted a.refusal (used_in a.places u) u
 
 -- ── what a call does to a state: the bytes of an archive, or the lines of the ledger of `history`
 
@@ -74,11 +74,11 @@ pub record Effect (S : Type 0) : Type 0 where
   pub leaves : S
   pub beside : Places
 
-abbrev pub refusalBy : {S : Type 0} → Effect S → ℕ
-refusalBy e = first_of e.refusals
+abbrev pub refusal_by : {S : Type 0} → Effect S → ℕ
+refusal_by e = first_of e.refusals
 
-abbrev pub answerBy : {S : Type 0} → Effect S → Answer
-answerBy e = answering (refusalBy e) (accepted (refusalBy e) e.gives e.beside)
+abbrev pub answer_by : {S : Type 0} → Effect S → Answer
+answer_by e = answering (refusal_by e) (accepted (refusal_by e) e.gives e.beside)
 
-abbrev pub leftBy : {S : Type 0} → Effect S → S → S
-leftBy e s = accepted (refusalBy e) e.leaves s
+abbrev pub left_by : {S : Type 0} → Effect S → S → S
+left_by e s = accepted (refusal_by e) e.leaves s

@@ -7,7 +7,7 @@ use Rattle.emission.specs.Figures.{figures_of}
 use Rattle.records.specs.Layout.{Line, trailer, line_of, trailer_size, used_length, record_size, edition, record_at}
 use Rattle.archive.specs.Conditions.{accepted, full, not_compartment}
 use Rattle.archive.specs.Offers.{Offer, own_refusals, line_with}
-use Rattle.archive.specs.Answers.{start, entry, part, line, Answer, Effect, answerBy, leftBy}
+use Rattle.archive.specs.Answers.{start, entry, part, line, Answer, Effect, answer_by, left_by}
 use Rattle.records.specs.Lines.{held, worst_of}
 use Rattle.records.specs.Buffer.{count_at, broken, lines_in, written}
 use Rattle.archive.specs.declared.Emptied.{Emptied}
@@ -29,10 +29,10 @@ abbrev pub empty_refusal : List ℕ → ℕ
 empty_refusal b = first_of (empty_refusals b)
 
 abbrev pub empty_answer : List ℕ → Answer
-empty_answer b = answerBy (empty_effect b)
+empty_answer b = answer_by (empty_effect b)
 
 abbrev pub empty_bytes : List ℕ → List ℕ
-empty_bytes b = leftBy (empty_effect b) b
+empty_bytes b = left_by (empty_effect b) b
 
 unfoldable pub emptying : List ℕ → Emptied
 emptying b = accepted (empty_refusal b) (Used trailer_size) (Refused (empty_refusal b))
@@ -63,10 +63,10 @@ abbrev pub file_refusal : List ℕ → ℕ → Offer → ℕ
 file_refusal b u o = first_of (file_refusals b u o)
 
 abbrev pub file_answer : List ℕ → ℕ → Offer → Answer
-file_answer b u o = answerBy (file_effect b u o)
+file_answer b u o = answer_by (file_effect b u o)
 
 abbrev pub file_bytes : List ℕ → ℕ → Offer → List ℕ
-file_bytes b u o = leftBy (file_effect b u o) b
+file_bytes b u o = left_by (file_effect b u o) b
 
 unfoldable pub filing : List ℕ → ℕ → Offer → Filing
 filing b u o =
@@ -100,7 +100,7 @@ abbrev pub worst_refusal : List ℕ → ℕ → ℕ → ℕ
 worst_refusal b u m = first_of (worst_refusals b u m)
 
 abbrev pub worst_answer : List ℕ → ℕ → ℕ → Answer
-worst_answer b u m = answerBy (worst_effect b u m)
+worst_answer b u m = answer_by (worst_effect b u m)
 
 unfoldable pub naming : List ℕ → ℕ → ℕ → Highest
 naming b u m = accepted (worst_refusal b u m) (Number (worst_of m (lines_in b u))) (NotNamed (worst_refusal b u m))

@@ -5,7 +5,7 @@ ghost use Rattle.kinds.specs.Refusal.{first_of};
 ghost use Rattle.kinds.specs.Case.{refusal_of};
 ghost use Rattle.records.specs.Buffer.{broken};
 ghost use Rattle.archive.specs.Offers.{Offer, offer};
-ghost use Rattle.archive.specs.Answers.{ofEmptied, ofFiling, ofHighest};
+ghost use Rattle.archive.specs.Answers.{of_emptied, of_filing, of_highest};
 ghost use Rattle.archive.specs.Archive.{empty_answer, empty_bytes, emptying, from_records, from_state, file_refusal, file_answer, file_bytes, filing, show_refusal, show_part, worst_answer, naming, is_record, record_figures};
 
 use emission::work_out;
@@ -31,7 +31,7 @@ pub enum Highest {
 }
 
 pub fn empty(archive: &mut [u8]) -> Emptied
-    ensures { (result ≡ emptying archive.old) × (archive.new ≡ empty_bytes archive.old) × (ofEmptied result ≡ empty_answer archive.old) }
+    ensures { (result ≡ emptying archive.old) × (archive.new ≡ empty_bytes archive.old) × (of_emptied result ≡ empty_answer archive.old) }
 {
     if archive.len() < records::TRAILER_SIZE {
         return Emptied::Refused(23);
@@ -83,7 +83,7 @@ fn file_refusal(archive: &[u8], used: u64, case: &[u8], refusal: u32) -> u32
 
 // Works the case out and files it with its figures.
 pub fn file(archive: &mut [u8], used: u64, case: &[u8]) -> Filing
-    ensures { (result ≡ filing archive.old used (offer case.now)) × (archive.new ≡ file_bytes archive.old used (offer case.now)) × (ofFiling result used ≡ file_answer archive.old used (offer case.now)) }
+    ensures { (result ≡ filing archive.old used (offer case.now)) × (archive.new ≡ file_bytes archive.old used (offer case.now)) × (of_filing result used ≡ file_answer archive.old used (offer case.now)) }
 {
     let worked = work_out(case);
     let refusal = file_refusal(archive, used, case, worked.refusal);
@@ -124,7 +124,7 @@ pub fn show(archive: &[u8], used: u64, number: u64) -> &[u8]
 
 // Which record is the worst in a compartment, 1 to 4 in the order of the figures.
 pub fn worst(archive: &[u8], used: u64, compartment: u64) -> Highest
-    ensures { (result ≡ naming archive.now used compartment) × (ofHighest result ≡ worst_answer archive.now used compartment) }
+    ensures { (result ≡ naming archive.now used compartment) × (of_highest result ≡ worst_answer archive.now used compartment) }
 {
     if (compartment < 1) | (4 < compartment) {
         return Highest::Refused(12);

@@ -14,7 +14,7 @@ use Rattle.kinds.specs.Builder.{case_bytes}
 use Rattle.records.specs.Layout.{Line, line_of}
 use Rattle.records.specs.Buffer.{written}
 use Rattle.archive.specs.Offers.{offer}
-use Rattle.archive.specs.Answers.{ofEmptied, ofFiling, usedIn}
+use Rattle.archive.specs.Answers.{of_emptied, of_filing, used_in}
 use Rattle.archive.specs.Archive.{emptying, empty_bytes, filing, file_bytes}
 use Rattle.cases.specs.Fields.{plain_number, record_in}
 use Rattle.cases.specs.Calls.{recorded_length, recorded_bytes, grown, filled, filled_length, filled_bytes, torn, used_after, bytes_after}
@@ -85,7 +85,7 @@ module _ (b : List ℕ) (at : ℕ) where
 -- ── by the call's place among the names
 
 module _ (k : ℕ) (f b : List ℕ) (u : ℕ) where
-  pub after_empty : {r : ℕ} {g : List ℕ} → k ≡ 0 → r ≡ usedIn (ofEmptied (emptying b)).places 0 → g ≡ empty_bytes b → (r ≡ used_after k f b u) × (g ≡ bytes_after k f b u)
+  pub after_empty : {r : ℕ} {g : List ℕ} → k ≡ 0 → r ≡ used_in (of_emptied (emptying b)).places 0 → g ≡ empty_bytes b → (r ≡ used_after k f b u) × (g ≡ bytes_after k f b u)
   unfolding used_after bytes_after
   after_empty h e w = rw h (e, w)
 
@@ -97,7 +97,7 @@ module _ (k : ℕ) (f b : List ℕ) (u : ℕ) where
   unfolding used_after bytes_after
   after_fill h q e w = rw (h, ← q) (e, w)
 
-  pub after_file : {n m r : ℕ} {g : List ℕ} → k ≡ 3 → n ≡ number_at f 104 1 → m ≡ min n 96 → r ≡ usedIn (ofFiling (filing b u (offer (take m (record_in f)))) u).places u → g ≡ file_bytes b u (offer (take m (record_in f)))
+  pub after_file : {n m r : ℕ} {g : List ℕ} → k ≡ 3 → n ≡ number_at f 104 1 → m ≡ min n 96 → r ≡ used_in (of_filing (filing b u (offer (take m (record_in f)))) u).places u → g ≡ file_bytes b u (offer (take m (record_in f)))
       → (r ≡ used_after k f b u) × (g ≡ bytes_after k f b u)
   unfolding used_after bytes_after
   after_file h p q e w = rw (h, ← p, ← q) (e, w)

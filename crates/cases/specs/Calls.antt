@@ -6,7 +6,7 @@ use Rattle.kinds.specs.Builder.{case_bytes}
 use Rattle.records.specs.Layout.{Line, line_of}
 use Rattle.records.specs.Buffer.{written}
 use Rattle.archive.specs.Offers.{offer}
-use Rattle.archive.specs.Answers.{ofEmptied, ofFiling, usedIn}
+use Rattle.archive.specs.Answers.{of_emptied, of_filing, used_in}
 use Rattle.archive.specs.Archive.{emptying, empty_bytes, filing, file_bytes}
 use Rattle.cases.specs.Words.{words_of, place_in}
 use Rattle.cases.specs.Fields.{are_fields, with_fields, plain_number, record_in, case_in}
@@ -52,10 +52,10 @@ filled_bytes n b = cond (holds (length b) n) (filled n b) b
 -- others leave it.
 unfoldable pub used_after : ℕ → List ℕ → List ℕ → ℕ → ℕ
 used_after k fields b u =
-    cond (eqb k 0) (usedIn (ofEmptied (emptying b)).places 0)
+    cond (eqb k 0) (used_in (of_emptied (emptying b)).places 0)
     (cond (eqb k 1) (plain_number fields)
     (cond (eqb k 2) (filled_length (length b) (plain_number fields))
-    (cond (eqb k 3) (usedIn (ofFiling (filing b u (offer (case_in fields))) u).places u)
+    (cond (eqb k 3) (used_in (of_filing (filing b u (offer (case_in fields))) u).places u)
     (cond (eqb k 4) (recorded_length (length b) u) u))))
 
 -- another byte at a place

@@ -1,7 +1,7 @@
 // The calls, a line printed for each.
 ghost use Rattle.std.specs.Prelude.{◌≡◌};
 ghost use Rattle.archive.specs.Offers.{offer};
-ghost use Rattle.archive.specs.Answers.{ofEmptied, ofFiling, usedIn};
+ghost use Rattle.archive.specs.Answers.{of_emptied, of_filing, used_in};
 ghost use Rattle.archive.specs.Archive.{emptying, empty_bytes, filing, file_bytes};
 ghost use Rattle.cases.specs.Calls.{torn};
 
@@ -41,7 +41,7 @@ pub fn work_out(case: &[u8]) {
 
 // The used length afterwards.
 pub fn empty(archive: &mut [u8]) -> u64
-    ensures { (result ≡ usedIn (ofEmptied (emptying archive.old)).places 0) × (archive.new ≡ empty_bytes archive.old) }
+    ensures { (result ≡ used_in (of_emptied (emptying archive.old)).places 0) × (archive.new ≡ empty_bytes archive.old) }
 {
     match archive::empty(archive) {
         Emptied::Used(length) => {
@@ -57,7 +57,7 @@ pub fn empty(archive: &mut [u8]) -> u64
 
 // The used length afterwards.
 pub fn file(archive: &mut [u8], used: u64, case: &[u8]) -> u64
-    ensures { (result ≡ usedIn (ofFiling (filing archive.old used (offer case.now)) used).places used) × (archive.new ≡ file_bytes archive.old used (offer case.now)) }
+    ensures { (result ≡ used_in (of_filing (filing archive.old used (offer case.now)) used).places used) × (archive.new ≡ file_bytes archive.old used (offer case.now)) }
 {
     match archive::file(archive, used, case) {
         Filing::Filed {

@@ -17,23 +17,23 @@ use Rattle.load.proofs.Micrograms.{InMicrograms, in_micrograms}
 use Rattle.archive.specs.Archive.{show_refusals}
 use Rattle.export.specs.Export.{EachWithin}
 use Rattle.export.proofs.EachLoad.{exported_refused}
-use Rattle.csorvelin.proofs.csorvelin_load.Kinds as load-kinds
-use Rattle.csorvelin.proofs.csorvelin_load.Reads as load-reads
-use Rattle.csorvelin.proofs.csorvelin_load.Met as load-met
-use Rattle.csorvelin.proofs.csorvelin_load.Statement as load-statement
-use Rattle.csorvelin.proofs.csorvelin_export.Kinds as export-kinds
-use Rattle.csorvelin.proofs.csorvelin_export.Reads as export-reads
-use Rattle.csorvelin.proofs.csorvelin_export.Met as export-met
-use Rattle.csorvelin.proofs.csorvelin_export.Statement as export-statement
+use Rattle.csorvelin.proofs.csorvelin_load.Kinds as load_kinds
+use Rattle.csorvelin.proofs.csorvelin_load.Reads as load_reads
+use Rattle.csorvelin.proofs.csorvelin_load.Met as load_met
+use Rattle.csorvelin.proofs.csorvelin_load.Statement as load_statement
+use Rattle.csorvelin.proofs.csorvelin_export.Kinds as export_kinds
+use Rattle.csorvelin.proofs.csorvelin_export.Reads as export_reads
+use Rattle.csorvelin.proofs.csorvelin_export.Met as export_met
+use Rattle.csorvelin.proofs.csorvelin_export.Statement as export_statement
 
 abbrev pub CLoadCall : Type 0
-CLoadCall = Called 1 load-kinds.ps load-kinds.r load-reads.Learnt
+CLoadCall = Called 1 load_kinds.ps load_kinds.r load_reads.Learnt
 
 abbrev pub CExportCall : Type 0
-CExportCall = Called 2 export-kinds.ps export-kinds.r export-reads.Learnt
+CExportCall = Called 2 export_kinds.ps export_kinds.r export_reads.Learnt
 
-pub c_loads_met : {M : Type 1} → load-statement.statement M × export-statement.statement M
-c_loads_met = (load-met.met, export-met.met)
+pub c_loads_met : {M : Type 1} → load_statement.statement M × export_statement.statement M
+c_loads_met = (load_met.met, export_met.met)
 
 pub c_load_within : (call : CLoadCall) → (call.result ≡ 0) × LoadWithin call.args.0 (number_of (ends call).1.0.now)
 c_load_within call = (call.kept.0.0, call.kept.1)

@@ -24,10 +24,10 @@ use Rattle.emission.specs.Called.{Called}
 use Rattle.emission.specs.Figures.{exact_values, figures_of, WithinBounds, margin}
 use Rattle.emission.proofs.Accepted.{figures_exact, figure_rounded, figures_refused}
 use Rattle.emission.proofs.Positive.{lower_not_zero}
-use Rattle.emission.proofs.work_out.Kinds as work-out-kinds
-use Rattle.emission.proofs.work_out.Reads as work-out-reads
-use Rattle.emission.proofs.work_out.Met as work-out-met
-use Rattle.emission.proofs.work_out.Statement as work-out-statement
+use Rattle.emission.proofs.work_out.Kinds as work_out_kinds
+use Rattle.emission.proofs.work_out.Reads as work_out_reads
+use Rattle.emission.proofs.work_out.Met as work_out_met
+use Rattle.emission.proofs.work_out.Statement as work_out_statement
 
 -- ── the law, for every exact value
 
@@ -59,10 +59,10 @@ figures_within = figures_within_at margin
 -- ── a call of `work_out`
 
 abbrev pub WorkOutCall : Type 0
-WorkOutCall = Called 1 work-out-kinds.ps work-out-kinds.r work-out-reads.Learnt
+WorkOutCall = Called 1 work_out_kinds.ps work_out_kinds.r work_out_reads.Learnt
 
-pub met : {M : Type 1} → work-out-statement.statement M
-met = work-out-met.met
+pub met : {M : Type 1} → work_out_statement.statement M
+met = work_out_met.met
 
 -- the bytes of the case that it was called on
 abbrev pub bytes : WorkOutCall → List ℕ

@@ -19,18 +19,18 @@ use Rattle.emission.specs.Called.{Called, ends}
 use Rattle.archive.specs.Archive.{show_refusals}
 use Rattle.export.specs.Export.{EachWithin}
 use Rattle.export.proofs.EachLoad.{exported_refused}
-use Rattle.export.proofs.export.Kinds as export-kinds
-use Rattle.export.proofs.export.Reads as export-reads
-use Rattle.export.proofs.export.Met as export-met
-use Rattle.export.proofs.export.Statement as export-statement
+use Rattle.export.proofs.export.Kinds as export_kinds
+use Rattle.export.proofs.export.Reads as export_reads
+use Rattle.export.proofs.export.Met as export_met
+use Rattle.export.proofs.export.Statement as export_statement
 
 abbrev pub ExportCall : Type 0
-ExportCall = Called 1 export-kinds.ps export-kinds.r export-reads.Learnt
+ExportCall = Called 1 export_kinds.ps export_kinds.r export_reads.Learnt
 
-pub met : {M : Type 1} → export-statement.statement M
-met = export-met.met
+pub met : {M : Type 1} → export_statement.statement M
+met = export_met.met
 
-pub asks_nothing : (κs : Lfts 1) (x : kinds.Dens κs export-kinds.ps) → export-reads.Asked κs x
+pub asks_nothing : (κs : Lfts 1) (x : kinds.Dens κs export_kinds.ps) → export_reads.Asked κs x
 asks_nothing κs x = tt
 
 -- the archive's bytes, the used length and the number that it was called with

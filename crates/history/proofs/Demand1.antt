@@ -13,43 +13,43 @@ use Rattle.records.specs.Lines.{IsWorst}
 use Rattle.records.specs.Buffer.{lines_in}
 use Rattle.emission.specs.Called.{ends}
 use Rattle.emission.proofs.Demand2.{WorkOutCall}
-use Rattle.archive.specs.Answers.{named, Effect, refusalBy}
+use Rattle.archive.specs.Answers.{named, Effect, refusal_by}
 use Rattle.archive.specs.Archive.{emptying, filing, show_part, naming}
 use Rattle.archive.proofs.AnswerLaws.{accepted_refused}
 use Rattle.archive.proofs.Accepted.{worst_told}
 use borrow.Fn.Kinds as kinds
-use Rattle.scenario.proofs.decode.Kinds as decode-kinds
-use Rattle.scenario.proofs.decode.Reads as decode-reads
-use Rattle.emission.proofs.work_out.Kinds as work-out-kinds
-use Rattle.emission.proofs.work_out.Reads as work-out-reads
-use Rattle.emission.proofs.work_out.Met as work-out-met
-use Rattle.emission.proofs.work_out.Statement as work-out-statement
-use Rattle.emission.proofs.work_out_into.Kinds as work-out-into-kinds
-use Rattle.emission.proofs.work_out_into.Reads as work-out-into-reads
-use Rattle.archive.proofs.empty.Kinds as empty-kinds
-use Rattle.archive.proofs.empty.Reads as empty-reads
-use Rattle.archive.proofs.empty.Met as empty-met
-use Rattle.archive.proofs.empty.Statement as empty-statement
-use Rattle.archive.proofs.figures_of.Kinds as figures-of-kinds
-use Rattle.archive.proofs.figures_of.Reads as figures-of-reads
-use Rattle.archive.proofs.figures_of.Met as figures-of-met
-use Rattle.archive.proofs.figures_of.Statement as figures-of-statement
-use Rattle.archive.proofs.file.Kinds as file-kinds
-use Rattle.archive.proofs.file.Reads as file-reads
-use Rattle.archive.proofs.file.Met as file-met
-use Rattle.archive.proofs.file.Statement as file-statement
-use Rattle.archive.proofs.show.Kinds as show-kinds
-use Rattle.archive.proofs.show.Reads as show-reads
-use Rattle.archive.proofs.show.Met as show-met
-use Rattle.archive.proofs.show.Statement as show-statement
-use Rattle.archive.proofs.show_refusal.Kinds as show-refusal-kinds
-use Rattle.archive.proofs.show_refusal.Reads as show-refusal-reads
-use Rattle.archive.proofs.show_refusal.Met as show-refusal-met
-use Rattle.archive.proofs.show_refusal.Statement as show-refusal-statement
-use Rattle.archive.proofs.worst.Kinds as worst-kinds
-use Rattle.archive.proofs.worst.Reads as worst-reads
-use Rattle.archive.proofs.worst.Met as worst-met
-use Rattle.archive.proofs.worst.Statement as worst-statement
+use Rattle.scenario.proofs.decode.Kinds as decode_kinds
+use Rattle.scenario.proofs.decode.Reads as decode_reads
+use Rattle.emission.proofs.work_out.Kinds as work_out_kinds
+use Rattle.emission.proofs.work_out.Reads as work_out_reads
+use Rattle.emission.proofs.work_out.Met as work_out_met
+use Rattle.emission.proofs.work_out.Statement as work_out_statement
+use Rattle.emission.proofs.work_out_into.Kinds as work_out_into_kinds
+use Rattle.emission.proofs.work_out_into.Reads as work_out_into_reads
+use Rattle.archive.proofs.empty.Kinds as empty_kinds
+use Rattle.archive.proofs.empty.Reads as empty_reads
+use Rattle.archive.proofs.empty.Met as empty_met
+use Rattle.archive.proofs.empty.Statement as empty_statement
+use Rattle.archive.proofs.figures_of.Kinds as figures_of_kinds
+use Rattle.archive.proofs.figures_of.Reads as figures_of_reads
+use Rattle.archive.proofs.figures_of.Met as figures_of_met
+use Rattle.archive.proofs.figures_of.Statement as figures_of_statement
+use Rattle.archive.proofs.file.Kinds as file_kinds
+use Rattle.archive.proofs.file.Reads as file_reads
+use Rattle.archive.proofs.file.Met as file_met
+use Rattle.archive.proofs.file.Statement as file_statement
+use Rattle.archive.proofs.show.Kinds as show_kinds
+use Rattle.archive.proofs.show.Reads as show_reads
+use Rattle.archive.proofs.show.Met as show_met
+use Rattle.archive.proofs.show.Statement as show_statement
+use Rattle.archive.proofs.show_refusal.Kinds as show_refusal_kinds
+use Rattle.archive.proofs.show_refusal.Reads as show_refusal_reads
+use Rattle.archive.proofs.show_refusal.Met as show_refusal_met
+use Rattle.archive.proofs.show_refusal.Statement as show_refusal_statement
+use Rattle.archive.proofs.worst.Kinds as worst_kinds
+use Rattle.archive.proofs.worst.Reads as worst_reads
+use Rattle.archive.proofs.worst.Met as worst_met
+use Rattle.archive.proofs.worst.Statement as worst_statement
 use Rattle.history.specs.Ledger.{worst}
 use Rattle.history.specs.Seen.{effect, Seen, Way, InOrder, SeenInOrder, SeenUnchanged}
 use Rattle.history.specs.Calls.{FileCall, ShowCall, ShowRefusalCall, WorstCall, ArchiveCall, empties, files, shows, names, archive_seen, Returned}
@@ -74,7 +74,7 @@ module _ {W : Way} (l : Lawful W) (call : W.Call) (u : ℕ) (f : List ℕ) where
   d : Does s
   d = l.does call u f
 
-  pub way_refusal : s.answer.refusal ≡ refusalBy e
+  pub way_refusal : s.answer.refusal ≡ refusal_by e
   way_refusal = λ i. (d.answer_is i).refusal
 
   pub way_in_order : SeenInOrder s
@@ -82,8 +82,8 @@ module _ {W : Way} (l : Lawful W) (call : W.Call) (u : ℕ) (f : List ℕ) where
 
   pub way_unchanged : SeenUnchanged s
   way_unchanged h =
-      let n : refusalBy e ≡ 0 → ⊥ = λ z. h (way_refusal ∙ z) in
-      ((λ i. (d.answer_is i).places) ∙ accepted_refused (refusalBy e) e.gives e.beside n, d.after_is ∙ accepted_refused (refusalBy e) e.leaves s.before n)
+      let n : refusal_by e ≡ 0 → ⊥ = λ z. h (way_refusal ∙ z) in
+      ((λ i. (d.answer_is i).places) ∙ accepted_refused (refusal_by e) e.gives e.beside n, d.after_is ∙ accepted_refused (refusal_by e) e.leaves s.before n)
 
   -- what worst names is the worst record
   pub named_worst : (m k : ℕ) → s.request ≡ worst m → s.answer ≡ named 0 k → IsWorst m (lines_in s.before s.used) k
@@ -114,28 +114,28 @@ unchanged = (way_unchanged direct_lawful, λ call. refl, λ call. refl, λ call.
 -- ── the functions meet the contracts that a call goes by
 
 pub met : {M : Type 1}
-    → empty-statement.statement M
-    × file-statement.statement M
-    × show-statement.statement M
-    × show-refusal-statement.statement M
-    × worst-statement.statement M
-    × figures-of-statement.statement M
-    × work-out-statement.statement M
-met = (empty-met.met, file-met.met, show-met.met, show-refusal-met.met, worst-met.met, figures-of-met.met, work-out-met.met)
+    → empty_statement.statement M
+    × file_statement.statement M
+    × show_statement.statement M
+    × show_refusal_statement.statement M
+    × worst_statement.statement M
+    × figures_of_statement.statement M
+    × work_out_statement.statement M
+met = (empty_met.met, file_met.met, show_met.met, show_refusal_met.met, worst_met.met, figures_of_met.met, work_out_met.met)
 
 -- ── nothing is asked of a caller, so that every call can be made
 
 -- Of `print` and of the C interface the crates `listing` and `csorvelin` say the same.
-pub asks_nothing : (κs : Lfts 1) (κs₂ : Lfts 2) (e : kinds.Dens κs empty-kinds.ps) (f : kinds.Dens κs₂ file-kinds.ps) (s : kinds.Dens κs show-kinds.ps)
-    (t : kinds.Dens κs show-refusal-kinds.ps) (w : kinds.Dens κs worst-kinds.ps) (g : kinds.Dens κs figures-of-kinds.ps) (o : kinds.Dens κs work-out-kinds.ps)
-    (i : kinds.Dens κs₂ work-out-into-kinds.ps) (d : kinds.Dens κs decode-kinds.ps)
-    → empty-reads.Asked κs e
-    × file-reads.Asked κs₂ f
-    × show-reads.Asked κs s
-    × show-refusal-reads.Asked κs t
-    × worst-reads.Asked κs w
-    × figures-of-reads.Asked κs g
-    × work-out-reads.Asked κs o
-    × work-out-into-reads.Asked κs₂ i
-    × decode-reads.Asked κs d
+pub asks_nothing : (κs : Lfts 1) (κs₂ : Lfts 2) (e : kinds.Dens κs empty_kinds.ps) (f : kinds.Dens κs₂ file_kinds.ps) (s : kinds.Dens κs show_kinds.ps)
+    (t : kinds.Dens κs show_refusal_kinds.ps) (w : kinds.Dens κs worst_kinds.ps) (g : kinds.Dens κs figures_of_kinds.ps) (o : kinds.Dens κs work_out_kinds.ps)
+    (i : kinds.Dens κs₂ work_out_into_kinds.ps) (d : kinds.Dens κs decode_kinds.ps)
+    → empty_reads.Asked κs e
+    × file_reads.Asked κs₂ f
+    × show_reads.Asked κs s
+    × show_refusal_reads.Asked κs t
+    × worst_reads.Asked κs w
+    × figures_of_reads.Asked κs g
+    × work_out_reads.Asked κs o
+    × work_out_into_reads.Asked κs₂ i
+    × decode_reads.Asked κs d
 asks_nothing κs κs₂ e f s t w g o i d = (tt, tt, tt, tt, tt, tt, tt, tt, tt)

@@ -10,7 +10,7 @@ use lib.ListN.{length}
 use Rattle.emission.specs.Called.{ends}
 use Rattle.records.specs.Fields.{fields, trailer_fields}
 use Rattle.archive.specs.Offers.{Offer, offer}
-use Rattle.archive.specs.Answers.{emptied, filed, ofEmptied, ofFiling}
+use Rattle.archive.specs.Answers.{emptied, filed, of_emptied, of_filing}
 use Rattle.archive.specs.Left.{FieldLeft, TrailerLeft}
 use Rattle.archive.specs.declared.Emptied.TheVariants.{Used}
 use Rattle.archive.specs.declared.Filing.TheVariants.{Filed}
@@ -32,8 +32,8 @@ module _ (call : FileCall) (n v : ℕ) (accepted : call.result ≡ Filed n v) wh
   abbrev case : List ℕ
   case = call.args.1.1.0.now
 
-  answered : ofFiling call.result call.args.1.0 ≡ filed 0 n v
-  answered = ap (λ r. ofFiling r call.args.1.0) accepted
+  answered : of_filing call.result call.args.1.0 ≡ filed 0 n v
+  answered = ap (λ r. of_filing r call.args.1.0) accepted
 
   pub each_field : (figures : List ℕ) → WorkedOut case figures → (k : ℕ) → k < length fields
       → FieldLeft (96 * n) (record { case = case; figures = figures }) (ends call).0.now k
@@ -43,7 +43,7 @@ module _ (call : FileCall) (n v : ℕ) (accepted : call.result ≡ Filed n v) wh
   each_trailer_field = ((bytes_left (files call) 0 []).by_file (offer case) [] refl n v answered).1.in_trailer
 
 pub emptied_trailer_field : (call : EmptyCall) (v : ℕ) → call.result ≡ Used v → (k : ℕ) → k < length trailer_fields → TrailerLeft 0 0 (ends call).0.now k
-emptied_trailer_field call v e = ((bytes_left (empties call) 0 []).by_empty refl v (ap ofEmptied e)).1.in_trailer
+emptied_trailer_field call v e = ((bytes_left (empties call) 0 []).by_empty refl v (ap of_emptied e)).1.in_trailer
 
 -- ── from C, where the result is 0 and the number stands in the caller's variable
 

@@ -14,16 +14,16 @@ use Rattle.archive.specs.Answers.{start, entry, line, answering}
 use Rattle.archive.specs.Archive.{empty_refusal, empty_bytes, file_refusal, file_bytes, show_refusal, show_part, worst_refusal}
 use Rattle.archive.proofs.AnswerLaws.{accepted_map}
 use Rattle.csorvelin.specs.Place.{start_shown, length_shown}
-use Rattle.csorvelin.proofs.csorvelin_work_out.Met as work-out-met
-use Rattle.csorvelin.proofs.csorvelin_work_out.Statement as work-out-statement
-use Rattle.csorvelin.proofs.csorvelin_empty.Met as empty-met
-use Rattle.csorvelin.proofs.csorvelin_empty.Statement as empty-statement
-use Rattle.csorvelin.proofs.csorvelin_file.Met as file-met
-use Rattle.csorvelin.proofs.csorvelin_file.Statement as file-statement
-use Rattle.csorvelin.proofs.csorvelin_show.Met as show-met
-use Rattle.csorvelin.proofs.csorvelin_show.Statement as show-statement
-use Rattle.csorvelin.proofs.csorvelin_worst.Met as worst-met
-use Rattle.csorvelin.proofs.csorvelin_worst.Statement as worst-statement
+use Rattle.csorvelin.proofs.csorvelin_work_out.Met as work_out_met
+use Rattle.csorvelin.proofs.csorvelin_work_out.Statement as work_out_statement
+use Rattle.csorvelin.proofs.csorvelin_empty.Met as empty_met
+use Rattle.csorvelin.proofs.csorvelin_empty.Statement as empty_statement
+use Rattle.csorvelin.proofs.csorvelin_file.Met as file_met
+use Rattle.csorvelin.proofs.csorvelin_file.Statement as file_statement
+use Rattle.csorvelin.proofs.csorvelin_show.Met as show_met
+use Rattle.csorvelin.proofs.csorvelin_show.Statement as show_statement
+use Rattle.csorvelin.proofs.csorvelin_worst.Met as worst_met
+use Rattle.csorvelin.proofs.csorvelin_worst.Statement as worst_statement
 use Rattle.history.specs.Ledger.{Request, empty, file, show, worst}
 use Rattle.history.specs.History.{FedBy, TurnBy, AllFed, HistoryOf}
 use Rattle.history.specs.Interface.{empties, files, shows, names, CWorkedOut, from_c}
@@ -90,9 +90,9 @@ module _ (κ : Lft) where
 -- ── the functions meet the contracts that a call goes by
 
 pub c_met : {M : Type 1}
-    → work-out-statement.statement M
-    × empty-statement.statement M
-    × file-statement.statement M
-    × show-statement.statement M
-    × worst-statement.statement M
-c_met = (work-out-met.met, empty-met.met, file-met.met, show-met.met, worst-met.met)
+    → work_out_statement.statement M
+    × empty_statement.statement M
+    × file_statement.statement M
+    × show_statement.statement M
+    × worst_statement.statement M
+c_met = (work_out_met.met, empty_met.met, file_met.met, show_met.met, worst_met.met)

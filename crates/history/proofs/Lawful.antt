@@ -4,7 +4,7 @@ use mathlib.Core.Path.{◌≡◌, refl, sym, ap, ◌∙◌, subst}
 use mathlib.Core.List.{List}
 use Prim.Native.Nat.{ℕ}
 use Rattle.emission.specs.Figures.{figures_of}
-use Rattle.archive.specs.Answers.{Answer, shown, refusalBy, answerBy, leftBy}
+use Rattle.archive.specs.Answers.{Answer, shown, refusal_by, answer_by, left_by}
 use Rattle.archive.specs.Archive.{show_refusal}
 use Rattle.archive.proofs.AnswerLaws.{accepted_same, of_showing}
 use Rattle.history.specs.Ledger.{Request, empty, file, show, worst}
@@ -13,8 +13,8 @@ use Rattle.history.specs.Calls.{ShowCall, ShowRefusalCall, SameArguments, Archiv
 use Rattle.history.specs.History.{FedBy, TurnBy}
 
 pub record Does (s : Seen) : Type 0 where
-  pub answer_is : s.answer ≡ answerBy (effect s.request s.before s.used)
-  pub after_is : s.after ≡ leftBy (effect s.request s.before s.used) s.before
+  pub answer_is : s.answer ≡ answer_by (effect s.request s.before s.used)
+  pub after_is : s.after ≡ left_by (effect s.request s.before s.used) s.before
 
 pub record Lawful (W : Way) : Type 0 where
   pub does : (call : W.Call) (u : ℕ) (f : List ℕ) → Does (W.seen call u f)
@@ -25,8 +25,8 @@ pub worked_figures : {c f : List ℕ} → WorkedOut c f → f ≡ figures_of c
 worked_figures w = w.gave ∙ w.call.kept.1 ∙ ap figures_of w.on
 
 -- a call that only reads
-pub reading : {c : Request} {b : List ℕ} {u : ℕ} {a : Answer} → (effect c b u).leaves ≡ b → a ≡ answerBy (effect c b u) → Does (seeing c b u a b)
-reading {c} {b} {u} l e = record { answer_is = e; after_is = rw l (sym (accepted_same (refusalBy (effect c b u)) b)) }
+pub reading : {c : Request} {b : List ℕ} {u : ℕ} {a : Answer} → (effect c b u).leaves ≡ b → a ≡ answer_by (effect c b u) → Does (seeing c b u a b)
+reading {c} {b} {u} l e = record { answer_is = e; after_is = rw l (sym (accepted_same (refusal_by (effect c b u)) b)) }
 
 -- of a request that is known
 pub does_as : {s : Seen} → Does s → {c : Request} → s.request ≡ c → Does (seeing c s.before s.used s.answer s.after)

@@ -8,7 +8,7 @@ use borrow.Author.Tests.{le-ltb}
 use lib.ListN.{length}
 use Rattle.records.specs.Layout.{Line}
 use Rattle.archive.specs.Conditions.{accepted}
-use Rattle.archive.specs.Answers.{Answer, usedIn, handed, refusalBy, answerBy}
+use Rattle.archive.specs.Answers.{Answer, used_in, handed, refusal_by, answer_by}
 use Rattle.archive.specs.Archive.{empty_refusals, empty_refusal}
 use Rattle.history.specs.Ledger.{Request, empty, file, show, worst, after}
 use Rattle.history.specs.Seen.{effect}
@@ -19,31 +19,31 @@ use Rattle.history.proofs.Turns.{Stands, kept, first_stands}
 use Rattle.history.proofs.Interface.{c_lawful}
 
 -- the variable holds the used length among the places, or what it held
-holds_place : (call : CCall) (u : ℕ) (f : List ℕ) → holds_then call u ≡ usedIn (c_seen call u f).answer.places u
+holds_place : (call : CCall) (u : ℕ) (f : List ℕ) → holds_then call u ≡ used_in (c_seen call u f).answer.places u
 holds_place (empties k) u f = refl
 holds_place (files k) u f = refl
 holds_place (shows k) u f = refl
 holds_place (names k) u f = refl
 
-beside_used : (c : Request) (b : List ℕ) (u : ℕ) → (c ≡ empty → ⊥) → u ≡ usedIn (effect c b u).beside u
+beside_used : (c : Request) (b : List ℕ) (u : ℕ) → (c ≡ empty → ⊥) → u ≡ used_in (effect c b u).beside u
 beside_used empty b u n = absurd (n refl)
 beside_used (file o f) b u n = refl
 beside_used (show k) b u n = refl
 beside_used (worst m) b u n = refl
 
-told_handed : (c : Request) (b : List ℕ) (u : ℕ) → (c ≡ empty → refusalBy (effect c b u) ≡ 0) → handed (answerBy (effect c b u)) u ≡ usedIn (answerBy (effect c b u)).places u
-told_handed c b u h = go (refusalBy (effect c b u)) h
+told_handed : (c : Request) (b : List ℕ) (u : ℕ) → (c ≡ empty → refusal_by (effect c b u) ≡ 0) → handed (answer_by (effect c b u)) u ≡ used_in (answer_by (effect c b u)).places u
+told_handed c b u h = go (refusal_by (effect c b u)) h
   where
     go : (r : ℕ) → (c ≡ empty → r ≡ 0)
-        → accepted r (usedIn (accepted r (effect c b u).gives (effect c b u).beside) u) u ≡ usedIn (accepted r (effect c b u).gives (effect c b u).beside) u
+        → accepted r (used_in (accepted r (effect c b u).gives (effect c b u).beside) u) u ≡ used_in (accepted r (effect c b u).gives (effect c b u).beside) u
     go zero k = refl
     go (suc r) k = beside_used c b u (λ q. let z : suc r ≡ 0 = k q in omega (arith, z))
 
 pub c_handed : {c : Request} {b : List ℕ} {u : ℕ} {a : Answer} {b' : List ℕ} (t : CTurn c b u a b') → (c ≡ empty → a.refusal ≡ 0) → handed a u ≡ holds_then t.call u
 c_handed {c} {b} {u} {a} t h =
-    let v : holds_then t.call u ≡ usedIn a.places u = holds_place t.call u t.figures ∙ λ i. usedIn (t.seen i).answer.places u in
+    let v : holds_then t.call u ≡ used_in a.places u = holds_place t.call u t.figures ∙ λ i. used_in (t.seen i).answer.places u in
     let e = (turn_does c_lawful t).answer_is in
-    ap (λ (x : Answer). handed x u) e ∙ told_handed c b u (λ q. (λ i. (sym e i).refusal) ∙ h q) ∙ sym (ap (λ (x : Answer). usedIn x.places u) e) ∙ sym v
+    ap (λ (x : Answer). handed x u) e ∙ told_handed c b u (λ q. (λ i. (sym e i).refusal) ∙ h q) ∙ sym (ap (λ (x : Answer). used_in x.places u) e) ∙ sym v
 
 -- Within a history no empty is refused, since the buffer keeps its size; so whoever hands on what the variable holds makes a history.
 
@@ -51,7 +51,7 @@ none_refused : {c : Request} {b : List ℕ} {u : ℕ} {a : Answer} {b' : List �
 unfolding empty_refusals
 none_refused {c} {b} {u} t h q =
     let z : empty_refusal b ≡ 0 = rw (le-ltb (length b) 16 h) in
-    (λ i. ((turn_does c_lawful t).answer_is i).refusal) ∙ ap (λ (x : Request). refusalBy (effect x b u)) q ∙ z
+    (λ i. ((turn_does c_lawful t).answer_is i).refusal) ∙ ap (λ (x : Request). refusal_by (effect x b u)) q ∙ z
 
 one_variable_run : {size : ℕ} {b : List ℕ} {u : ℕ} {ls : List Line} {cs : List Request} {rs : List Answer} {b'' : List ℕ} {u'' : ℕ}
     → 16 ≤ size → Stands size b u ls → OneVariable b u cs rs b'' u'' → RunBy from_c b u cs rs b'' u''

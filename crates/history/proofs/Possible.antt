@@ -9,9 +9,9 @@ use denote.Ref.{Bor}
 use lib.ListN.{length}
 use Rattle.kinds.specs.Case.{refusal_of}
 use Rattle.emission.specs.Figures.{figures_of}
-use Rattle.archive.specs.Answers.{Answer, emptied, handed, answerBy, leftBy}
+use Rattle.archive.specs.Answers.{Answer, emptied, handed, answer_by, left_by}
 use Rattle.archive.specs.Archive.{empty_refusals, empty_bytes, emptying, file_bytes, filing, show_refusal, show_part, naming}
-use Rattle.archive.proofs.AnswerLaws.{of_emptying, of_filing, of_naming}
+use Rattle.archive.proofs.AnswerLaws.{of_emptying, of_filing_lem, of_naming}
 use Rattle.history.specs.Ledger.{Request, empty, file, show, worst}
 use Rattle.history.specs.Seen.{effect, seeing, Way}
 use Rattle.history.specs.Calls.{empties, files, shows, names, WorkedOut, direct}
@@ -21,10 +21,10 @@ use Rattle.history.proofs.Lawful.{Lawful, fed_map, turn_does, direct_lawful}
 -- ── lists of calls from single ones
 
 abbrev pub told : Request → List ℕ → ℕ → Answer
-told c b u = answerBy (effect c b u)
+told c b u = answer_by (effect c b u)
 
 abbrev pub left : Request → List ℕ → ℕ → List ℕ
-left c b u = leftBy (effect c b u) b
+left c b u = left_by (effect c b u) b
 
 -- a call by a lawful way is a turn with that answer and those bytes
 pub made : {W : Way} (l : Lawful W) (call : W.Call) (u : ℕ) (f : List ℕ)
@@ -69,7 +69,7 @@ module _ (κ : Lft) where
   direct_turn empty d b u = made direct_lawful (empties (record { κs = (κ, tt); args = (lent b, tt); result = emptying b; last = (empty_bytes b, tt); kept = (refl, refl, of_emptying b) })) u [] refl d
   direct_turn (file o f) d b u =
       made direct_lawful
-      (files (record { κs = (κ, (κ, tt)); args = (lent b, (u, (lent o.case, tt))); result = filing b u o; last = (file_bytes b u o, (tt, (tt, tt))); kept = (refl, refl, of_filing b u o) })) u f refl d
+      (files (record { κs = (κ, (κ, tt)); args = (lent b, (u, (lent o.case, tt))); result = filing b u o; last = (file_bytes b u o, (tt, (tt, tt))); kept = (refl, refl, of_filing_lem b u o) })) u f refl d
   direct_turn (show k) d b u =
       made direct_lawful
       (shows (record { κs = (κ, tt); args = (lent b, (u, (k, tt))); result = lent (show_part b u k); last = (tt, (tt, (tt, tt))); kept = refl })

@@ -17,7 +17,7 @@ use Rattle.records.specs.Buffer.{written}
 use Rattle.records.proofs.Holding.{HoldsLines, count_is, sound_is, lines_are, record_is, length_emptied, emptied_holds, length_written, written_holds}
 use Rattle.archive.specs.Conditions.{accepted}
 use Rattle.archive.specs.Offers.{Offer, Within, line_with}
-use Rattle.archive.specs.Answers.{start, entry, part, Answer, emptied, usedIn, handed, Effect, refusalBy, answerBy, leftBy}
+use Rattle.archive.specs.Answers.{start, entry, part, Answer, emptied, used_in, handed, Effect, refusal_by, answer_by, left_by}
 use Rattle.archive.specs.Archive.{empty_refusals, empty_effect, empty_refusal, from_state, file_refusals, line_for, show_refusals, worst_refusals}
 use Rattle.archive.proofs.AnswerLaws.{same_answer}
 use Rattle.archive.proofs.Cases.{storable_line}
@@ -52,7 +52,7 @@ held_line o f r w =
 
 -- ── empty, on any buffer
 
-emptied_stands : (b : List ℕ) → refusalBy (ruling (length b) [] empty) ≡ 0 → Stands (length b) (empty_effect b).leaves trailer_size []
+emptied_stands : (b : List ℕ) → refusal_by (ruling (length b) [] empty) ≡ 0 → Stands (length b) (empty_effect b).leaves trailer_size []
 emptied_stands b z =
     let h = ltb-false (length b) trailer_size (none_holds ((23 when ltb (length b) trailer_size) ∷ []) refl z 0) in
     record { holds = emptied_holds b h; size_is = length_emptied b h; held = tt }
@@ -89,9 +89,9 @@ module _ {b : List ℕ} {u : ℕ} {ls : List Line} (h : HoldsLines b u ls) (g : 
 
   -- the same refusal; where there is none the same places, and a buffer that stands; the same places beside a refusal
   record Alike (e : Effect (List ℕ)) (j : Effect (List Line)) : Type 0 where
-    pub refused : refusalBy e ≡ refusalBy j
-    pub given : refusalBy j ≡ 0 → e.gives ≡ j.gives
-    pub stands : refusalBy j ≡ 0 → Stands (length b) e.leaves (usedIn e.gives u) j.leaves
+    pub refused : refusal_by e ≡ refusal_by j
+    pub given : refusal_by j ≡ 0 → e.gives ≡ j.gives
+    pub stands : refusal_by j ≡ 0 → Stands (length b) e.leaves (used_in e.gives u) j.leaves
     pub beside : e.beside ≡ j.beside
 
   alike : (c : Request) → FedBy WorkedOut c → Alike (effect c b u) (ruling (length b) ls c)
@@ -112,18 +112,18 @@ module _ {b : List ℕ} {u : ℕ} {ls : List Line} (h : HoldsLines b u ls) (g : 
   alike (worst m) d = record { refused = rw (sound_is h, count_is h); given = λ z. rw (lines_are h); stands = λ z. still; beside = refl }
 
   -- by the refusal
-  either : (e : Effect (List ℕ)) (j : Effect (List Line)) (r : ℕ) → (r ≡ 0 → Stands (length b) e.leaves (usedIn e.gives u) j.leaves)
-      → Stands (length b) (accepted r e.leaves b) (accepted r (usedIn (accepted r e.gives e.beside) u) u) (accepted r j.leaves ls)
+  either : (e : Effect (List ℕ)) (j : Effect (List Line)) (r : ℕ) → (r ≡ 0 → Stands (length b) e.leaves (used_in e.gives u) j.leaves)
+      → Stands (length b) (accepted r e.leaves b) (accepted r (used_in (accepted r e.gives e.beside) u) u) (accepted r j.leaves ls)
   either e j zero s = s refl
   either e j (suc r) s = still
 
-  kept_of : (c : Request) → FedBy WorkedOut c → Kept (length b) u ls c (answerBy (effect c b u)) (leftBy (effect c b u) b)
+  kept_of : (c : Request) → FedBy WorkedOut c → Kept (length b) u ls c (answer_by (effect c b u)) (left_by (effect c b u) b)
   unfolding answer after
   kept_of c d =
       let a = alike c d in
       let e = effect c b u in
       let j = ruling (length b) ls c in
-      record { answered = same_answer e j a.refused a.given a.beside; stands = rw a.refused (either e j (refusalBy j) a.stands) }
+      record { answered = same_answer e j a.refused a.given a.beside; stands = rw a.refused (either e j (refusal_by j) a.stands) }
 
 pub kept : {W : Way} (l : Lawful W) {size : ℕ} {b : List ℕ} {u : ℕ} {ls : List Line} (c : Request) {a : Answer} {b' : List ℕ} → Stands size b u ls → TurnBy W c b u a b' → Kept size u ls c a b'
 kept l c s t =
@@ -139,5 +139,5 @@ first_stands l {b} {u} {v} t =
     let d = turn_does l t in
     let r = empty_refusal b in
     let z : 0 ≡ r = λ i. (d.answer_is i).refusal in
-    let w : v ≡ usedIn (accepted r (start 16) (start 0)) 0 = (λ i. usedIn (d.answer_is i).places 0) in
+    let w : v ≡ used_in (accepted r (start 16) (start 0)) 0 = (λ i. used_in (d.answer_is i).places 0) in
     (d.answer_is, rw (← z), rw (d.after_is, w, ← z) (emptied_stands b (sym z)))

@@ -7,42 +7,42 @@ use Rattle.records.specs.Lines.{worst_of}
 use Rattle.records.specs.Buffer.{count_at, lines_in}
 use Rattle.archive.specs.Conditions.{accepted}
 use Rattle.archive.specs.Offers.{offer}
-use Rattle.archive.specs.Answers.{shown, ofEmptied, ofFiling, ofHighest}
+use Rattle.archive.specs.Answers.{shown, of_emptied, of_filing, of_highest}
 use Rattle.archive.specs.declared.Emptied.TheVariants.{Used, Refused}
 use Rattle.archive.specs.declared.Filing.TheVariants.{Filed, Refused as NotFiled}
 use Rattle.archive.specs.declared.Highest.TheVariants.{Number, Refused as NotNamed}
-use Rattle.archive.proofs.empty.Kinds as empty-kinds
-use Rattle.archive.proofs.empty.Reads as empty-reads
-use Rattle.archive.proofs.file.Kinds as file-kinds
-use Rattle.archive.proofs.file.Reads as file-reads
-use Rattle.archive.proofs.show.Kinds as show-kinds
-use Rattle.archive.proofs.show.Reads as show-reads
-use Rattle.archive.proofs.show_refusal.Kinds as show-refusal-kinds
-use Rattle.archive.proofs.show_refusal.Reads as show-refusal-reads
-use Rattle.archive.proofs.worst.Kinds as worst-kinds
-use Rattle.archive.proofs.worst.Reads as worst-reads
-use Rattle.archive.proofs.figures_of.Kinds as figures-of-kinds
-use Rattle.archive.proofs.figures_of.Reads as figures-of-reads
+use Rattle.archive.proofs.empty.Kinds as empty_kinds
+use Rattle.archive.proofs.empty.Reads as empty_reads
+use Rattle.archive.proofs.file.Kinds as file_kinds
+use Rattle.archive.proofs.file.Reads as file_reads
+use Rattle.archive.proofs.show.Kinds as show_kinds
+use Rattle.archive.proofs.show.Reads as show_reads
+use Rattle.archive.proofs.show_refusal.Kinds as show_refusal_kinds
+use Rattle.archive.proofs.show_refusal.Reads as show_refusal_reads
+use Rattle.archive.proofs.worst.Kinds as worst_kinds
+use Rattle.archive.proofs.worst.Reads as worst_reads
+use Rattle.archive.proofs.figures_of.Kinds as figures_of_kinds
+use Rattle.archive.proofs.figures_of.Reads as figures_of_reads
 use Rattle.history.specs.Ledger.{empty, file, show, worst}
 use Rattle.history.specs.Seen.{Seen, seeing, Way}
 
 abbrev pub EmptyCall : Type 0
-EmptyCall = Called 1 empty-kinds.ps empty-kinds.r empty-reads.Learnt
+EmptyCall = Called 1 empty_kinds.ps empty_kinds.r empty_reads.Learnt
 
 abbrev pub FileCall : Type 0
-FileCall = Called 2 file-kinds.ps file-kinds.r file-reads.Learnt
+FileCall = Called 2 file_kinds.ps file_kinds.r file_reads.Learnt
 
 abbrev pub ShowCall : Type 0
-ShowCall = Called 1 show-kinds.ps show-kinds.r show-reads.Learnt
+ShowCall = Called 1 show_kinds.ps show_kinds.r show_reads.Learnt
 
 abbrev pub ShowRefusalCall : Type 0
-ShowRefusalCall = Called 1 show-refusal-kinds.ps show-refusal-kinds.r show-refusal-reads.Learnt
+ShowRefusalCall = Called 1 show_refusal_kinds.ps show_refusal_kinds.r show_refusal_reads.Learnt
 
 abbrev pub WorstCall : Type 0
-WorstCall = Called 1 worst-kinds.ps worst-kinds.r worst-reads.Learnt
+WorstCall = Called 1 worst_kinds.ps worst_kinds.r worst_reads.Learnt
 
 abbrev pub FiguresCall : Type 0
-FiguresCall = Called 1 figures-of-kinds.ps figures-of-kinds.r figures-of-reads.Learnt
+FiguresCall = Called 1 figures_of_kinds.ps figures_of_kinds.r figures_of_reads.Learnt
 
 -- a call of show and one of its companion, with the same arguments
 pub record SameArguments (call : ShowCall) (told : ShowRefusalCall) : Type 0 where
@@ -60,10 +60,10 @@ pub data ArchiveCall : Type 0 where
 
 -- the refusal of show is the companion's result
 abbrev pub archive_seen : ArchiveCall → ℕ → List ℕ → Seen
-archive_seen (empties k) u f = seeing empty k.args.0.now u (ofEmptied k.result) (ends k).0.now
-archive_seen (files k) u f = let v = k.args.1.0 in seeing (file (offer k.args.1.1.0.now) f) k.args.0.now v (ofFiling k.result v) (ends k).0.now
+archive_seen (empties k) u f = seeing empty k.args.0.now u (of_emptied k.result) (ends k).0.now
+archive_seen (files k) u f = let v = k.args.1.0 in seeing (file (offer k.args.1.1.0.now) f) k.args.0.now v (of_filing k.result v) (ends k).0.now
 archive_seen (shows k t s) u f = seeing (show k.args.1.1.0) k.args.0.now k.args.1.0 (shown t.result k.result.now) (ends k).0.now
-archive_seen (names k) u f = seeing (worst k.args.1.1.0) k.args.0.now k.args.1.0 (ofHighest k.result) (ends k).0.now
+archive_seen (names k) u f = seeing (worst k.args.1.1.0) k.args.0.now k.args.1.0 (of_highest k.result) (ends k).0.now
 
 -- the result in the type that it has: without a refusal, and beside the refusal r
 abbrev pub Returned : ArchiveCall → ℕ → Type 0

@@ -7,34 +7,34 @@ use Rattle.records.specs.Buffer.{count_at, lines_in}
 use Rattle.archive.specs.Conditions.{accepted}
 use Rattle.archive.specs.Offers.{offer}
 use Rattle.archive.specs.Answers.{Answer, emptied, filed, shown, named}
-use Rattle.csorvelin.proofs.csorvelin_work_out.Kinds as work-out-kinds
-use Rattle.csorvelin.proofs.csorvelin_work_out.Reads as work-out-reads
-use Rattle.csorvelin.proofs.csorvelin_empty.Kinds as empty-kinds
-use Rattle.csorvelin.proofs.csorvelin_empty.Reads as empty-reads
-use Rattle.csorvelin.proofs.csorvelin_file.Kinds as file-kinds
-use Rattle.csorvelin.proofs.csorvelin_file.Reads as file-reads
-use Rattle.csorvelin.proofs.csorvelin_show.Kinds as show-kinds
-use Rattle.csorvelin.proofs.csorvelin_show.Reads as show-reads
-use Rattle.csorvelin.proofs.csorvelin_worst.Kinds as worst-kinds
-use Rattle.csorvelin.proofs.csorvelin_worst.Reads as worst-reads
+use Rattle.csorvelin.proofs.csorvelin_work_out.Kinds as work_out_kinds
+use Rattle.csorvelin.proofs.csorvelin_work_out.Reads as work_out_reads
+use Rattle.csorvelin.proofs.csorvelin_empty.Kinds as empty_kinds
+use Rattle.csorvelin.proofs.csorvelin_empty.Reads as empty_reads
+use Rattle.csorvelin.proofs.csorvelin_file.Kinds as file_kinds
+use Rattle.csorvelin.proofs.csorvelin_file.Reads as file_reads
+use Rattle.csorvelin.proofs.csorvelin_show.Kinds as show_kinds
+use Rattle.csorvelin.proofs.csorvelin_show.Reads as show_reads
+use Rattle.csorvelin.proofs.csorvelin_worst.Kinds as worst_kinds
+use Rattle.csorvelin.proofs.csorvelin_worst.Reads as worst_reads
 use Rattle.history.specs.Ledger.{Request, empty, file, show, worst}
 use Rattle.history.specs.Seen.{Seen, seeing, Way}
 use Rattle.history.specs.History.{TurnBy}
 
 abbrev pub CWorkOutCall : Type 0
-CWorkOutCall = Called 2 work-out-kinds.ps work-out-kinds.r work-out-reads.Learnt
+CWorkOutCall = Called 2 work_out_kinds.ps work_out_kinds.r work_out_reads.Learnt
 
 abbrev pub CEmptyCall : Type 0
-CEmptyCall = Called 2 empty-kinds.ps empty-kinds.r empty-reads.Learnt
+CEmptyCall = Called 2 empty_kinds.ps empty_kinds.r empty_reads.Learnt
 
 abbrev pub CFileCall : Type 0
-CFileCall = Called 4 file-kinds.ps file-kinds.r file-reads.Learnt
+CFileCall = Called 4 file_kinds.ps file_kinds.r file_reads.Learnt
 
 abbrev pub CShowCall : Type 0
-CShowCall = Called 3 show-kinds.ps show-kinds.r show-reads.Learnt
+CShowCall = Called 3 show_kinds.ps show_kinds.r show_reads.Learnt
 
 abbrev pub CWorstCall : Type 0
-CWorstCall = Called 2 worst-kinds.ps worst-kinds.r worst-reads.Learnt
+CWorstCall = Called 2 worst_kinds.ps worst_kinds.r worst_reads.Learnt
 
 pub data CCall : Type 0 where
   empties : CEmptyCall → CCall

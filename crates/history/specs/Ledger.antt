@@ -6,7 +6,7 @@ use Rattle.records.specs.Layout.{Line, no_line, record_of, trailer_size, used_le
 use Rattle.records.specs.Lines.{held, worst_of}
 use Rattle.archive.specs.Conditions.{full, not_compartment}
 use Rattle.archive.specs.Offers.{Offer, own_refusals, line_with}
-use Rattle.archive.specs.Answers.{start, entry, part, line, Answer, Effect, answerBy, leftBy}
+use Rattle.archive.specs.Answers.{start, entry, part, line, Answer, Effect, answer_by, left_by}
 
 -- A call as the ledger is fed it. Whose figures come with a filing is said by `FedBy` of History.
 pub data Request : Type 0 where
@@ -36,11 +36,11 @@ ruling size ls (worst m) = record { refusals = (12 when not_compartment m) ∷ (
 
 -- its answer to a request
 unfoldable pub answer : ℕ → List Line → Request → Answer
-answer size ls c = answerBy (ruling size ls c)
+answer size ls c = answer_by (ruling size ls c)
 
 -- its lines after a request: moved where it is accepted, and otherwise as they were
 unfoldable pub after : ℕ → List Line → Request → List Line
-after size ls c = leftBy (ruling size ls c) ls
+after size ls c = left_by (ruling size ls c) ls
 
 -- over a list of requests
 unfoldable pub answers : ℕ → List Line → List Request → List Answer

@@ -1,5 +1,5 @@
 -- Laws on what limbs hold.
---   use-again, use-part                     `in_use`: the limbs from i on are 0
+--   use_again, use_part                     `in_use`: the limbs from i on are 0
 --   zero_unused                             `is_zero`
 --   zero_of, some_of, flag_zero, flag_some  what a caller of `is_zero` learns
 --   number_none, number_one, number_more    `to_u64`
@@ -18,9 +18,9 @@ use Rattle.limbs.specs.Value.{value}
 use Rattle.limbs.proofs.Value.{value_take}
 
 -- limb i - 1 is 0 too
-pub use-again : (l : List ℕ) (i : ℕ) → 0 < i → i ≤ length l → get_or l (i - 1) 0 ≡ 0 → value (take i l) ≡ value l → value (take (i - 1) l) ≡ value l
-use-again l zero p h z inv = omega arith
-use-again l (suc j) p h z inv =
+pub use_again : (l : List ℕ) (i : ℕ) → 0 < i → i ≤ length l → get_or l (i - 1) 0 ≡ 0 → value (take i l) ≡ value l → value (take (i - 1) l) ≡ value l
+use_again l zero p h z inv = omega arith
+use_again l (suc j) p h z inv =
     let e : suc j - 1 ≡ j = omega arith in
     let g : get_or l j 0 * 2 ^ (32 * j) ≡ 0 * 2 ^ (32 * j) = ap (λ (n : ℕ). n * 2 ^ (32 * j)) (rw e at z) in
     let v : value (take (suc j) l) ≡ value (take j l) + get_or l j 0 * 2 ^ (32 * j) = value_take l j h in
@@ -38,9 +38,9 @@ zero_unused l (suc r) u =
     ne_eqb (suc r) 0 (λ z. omega arith) ∙ sym (ne_eqb (value l) 0 (λ z. omega arith))
 
 -- what `in_use` says of the first n limbs, said of the whole slice
-pub use-part : (l : List ℕ) (n r : ℕ) → n ≤ length l → (r ≤ length (take n l)) × (value (take r (take n l)) ≡ value (take n l)) × (0 < r → 0 < get_or (take n l) (r - 1) 0)
+pub use_part : (l : List ℕ) (n r : ℕ) → n ≤ length l → (r ≤ length (take n l)) × (value (take r (take n l)) ≡ value (take n l)) × (0 < r → 0 < get_or (take n l) (r - 1) 0)
     → (value (take r l) ≡ value (take n l)) × (r ≤ n) × (0 < r → 0 < get_or l (r - 1) 0)
-use-part l n r h u =
+use_part l n r h u =
     let b : r ≤ n = omega (arith, length-take-le n l h) in
     (rw (take-take r n l b) at u.1, b, λ p. rw (get_or-take n l (r - 1) 0 (omega arith)) at (u.2 p))
 

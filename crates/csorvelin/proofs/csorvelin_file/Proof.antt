@@ -1,6 +1,6 @@
 -- Each arm of the match says which answer file gave; the bytes are file's own.
 use borrow.Author.Rules.{rules}
-use Rattle.archive.specs.Answers.{ofFiling}
+use Rattle.archive.specs.Answers.{of_filing}
 use Rattle.csorvelin.proofs.Told.{told}
 use Rattle.csorvelin.proofs.csorvelin_file.Statement.{statement}
 use Rattle.csorvelin.proofs.csorvelin_file.Tie as tie
@@ -16,9 +16,9 @@ csorvelin-file-spec =
     (λ c.
     let f = c.before.before.before.before.before in
     let u = f.before.before.before.before.before.args.used.now in
-    (told (λ a. ofFiling a u) f.file.ensures.2 c.before.place.given.1, f.file.ensures.1))
+    (told (λ a. of_filing a u) f.file.ensures.2 c.before.place.given.1, f.file.ensures.1))
     (λ c. search rules)
     (λ c.
     let f = c.before.before.before.before.before in
     let u = f.before.before.before.before.before.args.used.now in
-    (told (λ a. ofFiling a u) f.file.ensures.2 c.before.refusal.given.1, f.file.ensures.1)))
+    (told (λ a. of_filing a u) f.file.ensures.2 c.before.refusal.given.1, f.file.ensures.1)))

@@ -6,7 +6,7 @@ use Prim.Native.Nat.{ℕ, ◌+◌, ◌/◌}
 use native.Mathlib.Omega.{arith}
 use lib.Seq.{length-take-le, length_front}
 use Rattle.limbs.specs.Value.{value}
-use Rattle.limbs.proofs.Held.{use-part}
+use Rattle.limbs.proofs.Held.{use_part}
 use Rattle.limbs.proofs.Value.{front_stays, stays_above}
 use Rattle.starts.proofs.Start.{complement_done}
 use Rattle.starts.proofs.complement.Goals as goal
@@ -23,7 +23,7 @@ returns c =
     let e = c.subtract.new.limbs in
     let n = c.lay-n.result in
     let k = length_front l e n c.subtract.auto.limbs in
-    let u = use-part (e ++ drop n l) n c.in_use.result (omega arith) c.in_use.ensures in
+    let u = use_part (e ++ drop n l) n c.in_use.result (omega arith) c.in_use.ensures in
     let d = complement_done l e n a.m a.t c.subtract.result _ _ (omega arith) c.subtract.auto.limbs c.lay-n.ensures.0 c.subtract.ensures.0 c.low.ensures c.high.ensures (omega arith) (λ i. (c.slice_known-3-1.given i).fits) in (
       ap (λ (z : ℕ). z + a.m) u.0 ∙ d,
       omega arith,

@@ -7,7 +7,7 @@ use lib.ListN.{take, drop}
 use lib.Seq.{length-take-le, length_front}
 use Rattle.limbs.specs.Value.{value}
 use Rattle.limbs.proofs.Value.{value_front}
-use Rattle.limbs.proofs.Held.{use-part}
+use Rattle.limbs.proofs.Held.{use_part}
 use Rattle.limbs.proofs.Value.{front_stays}
 use Rattle.starts.proofs.sum.Goals as goal
 
@@ -23,7 +23,7 @@ returns c =
     let e = c.lay_sum.new.limbs in
     let n = c.larger.result / 32 + 3 in
     let k = length_front l e n c.lay_sum.auto.limbs in
-    let u = use-part (e ++ drop n l) n c.in_use.result (omega arith) c.in_use.ensures in
+    let u = use_part (e ++ drop n l) n c.in_use.result (omega arith) c.in_use.ensures in
     let f : value (take n (e ++ drop n l)) ≡ p.x * 2 ^ p.s + p.y * 2 ^ p.t = (value_front l e n (omega arith) c.lay_sum.auto.limbs).0 ∙ c.lay_sum.ensures in
     let o = ap (λ (z : ℕ). z / 32 + 3) c.larger.ensures in (
       u.0 ∙ f,

@@ -3,7 +3,7 @@ use mathlib.Core.Path.{ap}
 use native.Mathlib.Omega.{arith}
 use lib.Seq.{take-length}
 use Rattle.limbs.specs.Value.{value}
-use Rattle.limbs.proofs.Held.{use-again}
+use Rattle.limbs.proofs.Held.{use_again}
 use Rattle.limbs.proofs.reading.in_use.Goals as goal
 
 pub loop-n-init : goal.loop-n-init
@@ -28,7 +28,7 @@ pub loop-n-smaller : goal.loop-n-smaller
 loop-n-smaller c = omega arith
 
 pub loop-n-preserved : goal.loop-n-preserved
-loop-n-preserved c = (omega arith, use-again _ c.loop-n.n (omega arith) (omega arith) c.if-limbs-n-ne0.false c.loop-n.invariant.1)
+loop-n-preserved c = (omega arith, use_again _ c.loop-n.n (omega arith) (omega arith) c.if-limbs-n-ne0.false c.loop-n.invariant.1)
 
 pub returns : goal.returns
 returns c = (c.loop-n.invariant.0, c.loop-n.invariant.1, λ h. let t = c.loop-n-test.false in omega arith)
