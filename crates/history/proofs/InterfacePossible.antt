@@ -27,7 +27,7 @@ use Rattle.csorvelin.proofs.csorvelin_worst.Statement as worst_statement
 use Rattle.history.specs.Ledger.{Request, empty, file, show, worst}
 use Rattle.history.specs.History.{FedBy, TurnBy, AllFed, HistoryOf}
 use Rattle.history.specs.Interface.{empties, files, shows, names, CWorkedOut, from_c}
-use Rattle.history.proofs.Possible.{told, left, made, Can, history_by, lent}
+use Rattle.history.proofs.Possible.{told, left, made, Can, history_by, lent, lent_to_write}
 use Rattle.history.proofs.Interface.{c_lawful}
 
 -- ── that there are such calls and histories
@@ -39,11 +39,11 @@ module _ (κ : Lft) where
 
   -- each place of an answer is the number that is given without a refusal, or the one beside it
   c_turn_can : (c : Request) → FedBy CWorkedOut c → (b : List ℕ) (u : ℕ) → TurnBy from_c c b u (told c b u) (left c b u)
-  unfolding lent start_shown length_shown show_part
+  unfolding lent lent_to_write start_shown length_shown show_part
   c_turn_can empty d b u =
       let r = empty_refusal b in
       let e = ap (answering r) (accepted_map start r trailer_size 0) in
-      made c_lawful (empties (record { κs = (κ, (κ, tt)); args = (lent b, (lent 0, tt)); result = r; last = (empty_bytes b, (accepted r trailer_size 0, tt)); kept = (e, refl) })) u [] refl d
+      made c_lawful (empties (record { κs = (κ, (κ, tt)); args = (lent_to_write b, (lent_to_write 0, tt)); result = r; last = (empty_bytes b, (accepted r trailer_size 0, tt)); kept = (e, refl) })) u [] refl d
   c_turn_can (file o f) d b u =
       let r = file_refusal b u o in
       let n = count_at b u in
@@ -52,7 +52,7 @@ module _ (κ : Lft) where
       made c_lawful
       (files (record {
         κs = (κ, (κ, (κ, (κ, tt))));
-        args = (lent b, (lent u, (lent o.case, (lent 0, tt))));
+        args = (lent_to_write b, (lent_to_write u, (lent o.case, (lent_to_write 0, tt))));
         result = r;
         last = (file_bytes b u o, (x.1, (tt, (x.0, tt))));
         kept = (e, refl);
@@ -62,7 +62,7 @@ module _ (κ : Lft) where
       made c_lawful
       (shows (record {
         κs = (κ, (κ, (κ, tt)));
-        args = (lent b, (u, (k, (lent 0, (lent 0, tt)))));
+        args = (lent b, (u, (k, (lent_to_write 0, (lent_to_write 0, tt)))));
         result = r;
         last = (tt, (tt, (tt, (start_shown b u k, (length_shown b u k, tt)))));
         kept = (refl, refl, refl, shown_place b k r);
@@ -71,14 +71,14 @@ module _ (κ : Lft) where
       let r = worst_refusal b u m in
       let w = worst_of m (lines_in b u) in
       let e = ap (answering r) (accepted_map line r w 0) in
-      made c_lawful (names (record { κs = (κ, (κ, tt)); args = (lent b, (u, (m, (lent 0, tt)))); result = r; last = (tt, (tt, (tt, (accepted r w 0, tt)))); kept = e })) u [] refl d
+      made c_lawful (names (record { κs = (κ, (κ, tt)); args = (lent b, (u, (m, (lent_to_write 0, tt)))); result = r; last = (tt, (tt, (tt, (accepted r w 0, tt)))); kept = e })) u [] refl d
 
   pub c_can : Can from_c
-  unfolding lent
+  unfolding lent lent_to_write
   c_can = record {
     turn = c_turn_can;
     work_out = λ c f e. record {
-      call = record { κs = (κ, (κ, tt)); args = (lent c, (lent (figures_of c), tt)); result = refusal_of c; last = (tt, (figures_of c, tt)); kept = (refl, refl) };
+      call = record { κs = (κ, (κ, tt)); args = (lent c, (lent_to_write (figures_of c), tt)); result = refusal_of c; last = (tt, (figures_of c, tt)); kept = (refl, refl) };
       on = refl;
       gave = e;
     };

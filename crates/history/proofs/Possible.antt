@@ -5,6 +5,7 @@ use mathlib.Core.List.{List, [], ◌∷◌}
 use Prim.Native.Nat.{ℕ, ◌≤◌}
 use base.Fml.{Lft}
 use borrow.Author.Tests.{le-ltb}
+use denote.MutBor.{MutBor}
 use denote.Ref.{Bor}
 use lib.ListN.{length}
 use Rattle.kinds.specs.Case.{refusal_of}
@@ -63,13 +64,17 @@ module _ {W : Way} (can : Can W) where
 unfoldable pub lent : {A : Type 0} → A → Bor A
 lent x = record { ref_ptr = (0, 0); now = x }
 
+-- to something that the call may write
+unfoldable pub lent_to_write : {A : Type 0} → A → MutBor A
+lent_to_write x = record { ref_ptr = (0, 0); ghost_name = 0; now = x }
+
 module _ (κ : Lft) where
   direct_turn : (c : Request) → FedBy WorkedOut c → (b : List ℕ) (u : ℕ) → TurnBy direct c b u (told c b u) (left c b u)
-  unfolding lent
-  direct_turn empty d b u = made direct_lawful (empties (record { κs = (κ, tt); args = (lent b, tt); result = emptying b; last = (empty_bytes b, tt); kept = (refl, refl, of_emptying b) })) u [] refl d
+  unfolding lent lent_to_write
+  direct_turn empty d b u = made direct_lawful (empties (record { κs = (κ, tt); args = (lent_to_write b, tt); result = emptying b; last = (empty_bytes b, tt); kept = (refl, refl, of_emptying b) })) u [] refl d
   direct_turn (file o f) d b u =
       made direct_lawful
-      (files (record { κs = (κ, (κ, tt)); args = (lent b, (u, (lent o.case, tt))); result = filing b u o; last = (file_bytes b u o, (tt, (tt, tt))); kept = (refl, refl, of_filing_lem b u o) })) u f refl d
+      (files (record { κs = (κ, (κ, tt)); args = (lent_to_write b, (u, (lent o.case, tt))); result = filing b u o; last = (file_bytes b u o, (tt, (tt, tt))); kept = (refl, refl, of_filing_lem b u o) })) u f refl d
   direct_turn (show k) d b u =
       made direct_lawful
       (shows (record { κs = (κ, tt); args = (lent b, (u, (k, tt))); result = lent (show_part b u k); last = (tt, (tt, (tt, tt))); kept = refl })

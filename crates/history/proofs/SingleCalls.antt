@@ -59,10 +59,10 @@ c_refusal_first = (λ call. (refusal_order call.args.0.now call.result).0 (sym c
 
 -- Of work out the figures; of every other call buffer and places.
 pub c_beside_a_refusal :
-    ((call : CWorkOutCall) → (call.result ≡ 0 → ⊥) → now (ends call).1.0 ≡ 0 ∷ 0 ∷ 0 ∷ 0 ∷ [])
+    ((call : CWorkOutCall) → (call.result ≡ 0 → ⊥) → (ends call).1.0.now ≡ 0 ∷ 0 ∷ 0 ∷ 0 ∷ [])
     × ((call : CCall) (u : ℕ) (f : List ℕ) → SeenUnchanged (c_seen call u f))
 c_beside_a_refusal = (
-  λ call h. call.kept.1 ∙ sym (figures_refused (now call.args.0) (λ (z : refusal_of (now call.args.0) ≡ 0). h (call.kept.0 ∙ z))),
+  λ call h. call.kept.1 ∙ sym (figures_refused (call.args.0.now) (λ (z : refusal_of (call.args.0.now) ≡ 0). h (call.kept.0 ∙ z))),
   way_unchanged c_lawful,
 )
 
