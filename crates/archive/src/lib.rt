@@ -1,5 +1,7 @@
 // The archive in a lent slice: records of 96 bytes, then a trailer of 16. Each call is total: it answers, or refuses by number.
 // specs/ says when each refusal holds, what each call answers, and which bytes it leaves.
+#![tactic(auto)]
+
 ghost use Rattle.std.specs.Prelude.{◌≡◌, false, length};
 ghost use Rattle.kinds.specs.Refusal.{first_of};
 ghost use Rattle.kinds.specs.Case.{refusal_of};

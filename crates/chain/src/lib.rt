@@ -2,5 +2,7 @@
 // starts.
 // A function that returns a count leaves its number in that many limbs, and limbs that it does not need stay as they were.
 // Rounding up leaves the number rounded down in them.
+#![tactic(auto)]
+
 pub mod products;
 pub mod rounding;

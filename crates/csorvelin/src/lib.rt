@@ -1,5 +1,7 @@
 // The C interface. Each call is total, returns the refusal's number or 0, and leaves every output with a stated value.
 // A slice is passed as a pointer and a length, in that order; include/csorvelin.h declares these functions for C.
+#![tactic(auto)]
+
 ghost use Rattle.std.specs.Prelude.{◌≡◌};
 ghost use Rattle.octets.specs.Bytes.{number_of};
 ghost use Rattle.kinds.specs.Case.{refusal_of};

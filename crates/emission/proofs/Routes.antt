@@ -2,7 +2,7 @@
 -- number the same (`by_either_route`).
 use mathlib.Core.Path.{◌≡◌, refl}
 use Prim.Native.Nat.{ℕ}
-use mathlib.Core.List.{List, [], ◌∷◌}
+use mathlib.Core.List.{[], ◌∷◌}
 use lib.ListN.{get_or}
 use Rattle.kinds.specs.Builder.{case_bytes}
 use Rattle.scenario.specs.Decoding.{case_of_patterns, case_of, head_of}

@@ -1,5 +1,7 @@
 // The daily emissions of a case: four figures in whole micrograms, each its exact value rounded up once.
 // specs/ says what a figure is; crate `equations` has the equations of the eight kinds.
+#![tactic(auto)]
+
 ghost use Rattle.std.specs.Prelude.{◌≡◌, cond, [], ◌∷◌, eqb};
 ghost use Rattle.kinds.specs.Case.{refusal_of};
 ghost use Rattle.product.specs.Ratio.{rounded_up};

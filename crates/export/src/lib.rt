@@ -1,5 +1,7 @@
 // A record of an archive for the fate model: its four figures as loads, 32 bytes in the order of the figures. The archive is only read.
 // specs/ says which bytes these are. What show refuses is refused, by the same number.
+#![tactic(auto)]
+
 ghost use Rattle.std.specs.Prelude.{◌≡◌};
 ghost use Rattle.archive.specs.Archive.{show_refusal};
 ghost use Rattle.export.specs.Export.{loads_of, export_bytes, EachWithin};

@@ -3,7 +3,7 @@
 -- That patterns are in the order of their values is in crate binary64, `Order`.
 use mathlib.Core.Path.{◌≡◌, refl, ap}
 use mathlib.Core.Bool.{Bool, true, false, not, ◌&&◌, cond}
-use mathlib.Core.List.{List, ◌∷◌}
+use mathlib.Core.List.{◌∷◌}
 use Prim.Native.Nat.{ℕ, ◌*◌}
 use lib.Dec.{leb, eqb}
 use lib.Ieee.{of_int, to_bits}

@@ -1,5 +1,7 @@
 // What each kind allows, as two tables: the bounds of its fields, and the limits of its quantities; and the tests of refusals 2 to 6 and 31.
 // specs/ says what each kind allows and when each refusal holds.
+#![tactic(auto)]
+
 ghost use Rattle.std.specs.Prelude.{◌≡◌, not, eqb};
 ghost use Rattle.kinds.specs.Case.{within, ◌to◌, kind_at, kind_unknown, route_not_allowed, row_unknown, user_not_allowed, usage_missing, count_not_allowed};
 ghost use Rattle.kinds.specs.Patterns.{bounds_of, limit_patterns, limits_of};

@@ -1,5 +1,7 @@
 // The printed archive: a header, then a line for each record, into a lent buffer. Total: input that refusal 21 meets, or that is too long,
 // is printed as `refused 21`.
+#![tactic(auto)]
+
 ghost use Rattle.std.specs.Prelude.{◌≡◌, List, ℕ, ◌≤◌, ◌<◌, length};
 ghost use Rattle.octets.specs.Bytes.{splice};
 ghost use Rattle.listing.specs.Listing.{most_input, most_output, refused, listing_of, listed, of_listed, lengths, listed_bytes, ReadOf};

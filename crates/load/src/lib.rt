@@ -1,5 +1,7 @@
 // A figure as the fate model reads it: the smallest binary64 that is not below it, in eight little-endian bytes.
 // specs/ says what it is to be that load, and which pattern it is.
+#![tactic(auto)]
+
 ghost use Rattle.std.specs.Prelude.{◌≡◌};
 ghost use Rattle.octets.specs.Bytes.{number_of};
 ghost use Rattle.load.specs.Load.{LoadWithin, load_pattern, load_bytes};

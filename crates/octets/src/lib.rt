@@ -1,5 +1,7 @@
 // Little-endian numbers in a slice of bytes: read, and written in their place. By halves, so that the compiler makes
 // one load or one store of each. Bytes as they are, copied to their place by numbers of 8.
+#![tactic(auto)]
+
 ghost use Rattle.std.specs.Prelude.{◌≡◌, ◌+◌, ◌≤◌, ◌<◌, length, take};
 ghost use Rattle.octets.specs.Bytes.{bytes_of, number_at, splice};
 

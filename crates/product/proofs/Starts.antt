@@ -15,7 +15,6 @@ use Rattle.product.specs.Chain.{quantity, chain}
 use Rattle.product.specs.Ranges.{UpTo}
 use Rattle.product.proofs.Ratios.{times_comm, times_one, same_of, same_trans, same_scaled, same_plus, rounded_same}
 use Rattle.product.proofs.Chains.{chain_append, quantities_positive}
-use Rattle.product.proofs.Limbs.{most}
 
 -- k / 1 times q, then the chain c, then 1 / d
 regroup : (k d : ℕ) (q c : Ratio) → (k over 1) · q · c · 1 over d ≡ (k over d) · (q · c)

@@ -1,4 +1,6 @@
 // Chains of factors in limbs: exact products of quantities, rounded up once at the end.
+#![tactic(auto)]
+
 ghost use Rattle.std.specs.Prelude.{◌≡◌, [], ◌∷◌, ◌++◌, map, ◌+◌, ◌*◌, ◌^◌, ◌≤◌, ◌<◌, min, length, take};
 ghost use Rattle.limbs.specs.Value.{value};
 ghost use Rattle.product.specs.Ratio.{◌over◌, ◌·◌, ◌⊕◌, exactly, Same, rounded_up};

@@ -1,4 +1,6 @@
 // Records and the trailer of an archive: read, and written straight to their places; `search` looks through them.
+#![tactic(auto)]
+
 ghost use Rattle.std.specs.Prelude.{◌≡◌, ◌+◌, ◌*◌, ◌≤◌, ◌<◌, length};
 ghost use Rattle.octets.specs.Bytes.{splice};
 ghost use Rattle.records.specs.Layout.{figure_bytes, trailer, line_of, used_length, most_records, figures_end, record_size, edition};

@@ -1,5 +1,7 @@
 // A case of 64 bytes: decoded to an enum over kinds, or refused by the first of refusals 1 to 11 and 31 that holds.
 // specs/ says what a case says; what each kind allows and when each refusal holds is in crate kinds.
+#![tactic(auto)]
+
 ghost use Rattle.std.specs.Prelude.{◌≡◌, false, ◌++◌};
 ghost use Rattle.kinds.specs.Refusal.{first_of};
 ghost use Rattle.kinds.specs.Case.{any_not_number, head_refusals, quantity_refusals};

@@ -1,4 +1,6 @@
 // The wide starts of a chain: a number shifted up, a power of two less a number, and a sum of two numbers shifted up.
+#![tactic(auto)]
+
 ghost use Rattle.std.specs.Prelude.{◌≡◌, ◌+◌, ◌-◌, ◌*◌, ◌/◌, ◌^◌, ◌≤◌, ◌<◌, max, length, take, drop, get_or};
 ghost use Rattle.limbs.specs.Value.{value};
 

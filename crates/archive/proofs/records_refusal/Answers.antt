@@ -1,13 +1,10 @@
 -- The tests are those of the list of refusals, in its order.
 use mathlib.Core.Path.{◌≡◌, sym, ◌∙◌}
-use mathlib.Core.Bool.{Bool, true, false, cond}
+use mathlib.Core.Bool.{true, false}
 use native.Mathlib.Omega.{arith}
 use lib.ListN.{length}
-use Rattle.kinds.specs.Refusal.{first_of}
 use Rattle.records.proofs.Trailer.{sound_facts}
 use Rattle.archive.specs.Conditions.{full}
-use Rattle.archive.specs.Offers.{Offer}
-use Rattle.archive.specs.Archive.{from_records}
 use Rattle.archive.proofs.Refusals.{full_exactly, full_short, full_most}
 use Rattle.archive.proofs.records_refusal.Goals as goal
 

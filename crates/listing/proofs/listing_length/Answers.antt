@@ -15,33 +15,33 @@ returns-then-is_refused c = sym (length_refused _ (sym c.is_refused.ensures ∙ 
 pub count_at-n-requires : goal.count_at-n-requires
 count_at-n-requires c =
     let accepted : refused c.args.archive.now ≡ false =
-        sym c.is_refused.ensures ∙ c.if-is_refused.false
+    sym c.is_refused.ensures ∙ c.if-is_refused.false
     in
     ((accepted_facts _ accepted).at_least, omega arith)
 
 pub lines_length-requires : goal.lines_length-requires
 lines_length-requires c =
     let accepted : refused c.args.archive.now ≡ false =
-        sym c.is_refused.ensures ∙ c.if-is_refused.false
+    sym c.is_refused.ensures ∙ c.if-is_refused.false
     in
     let f = accepted_facts _ accepted in rw c.count_at-n.ensures (f.inside, omega arith, f.few)
 
 pub overflow_add-result : goal.overflow_add-result
 overflow_add-result c =
     let accepted : refused c.args.archive.now ≡ false =
-        sym c.is_refused.ensures ∙ c.if-is_refused.false
+    sym c.is_refused.ensures ∙ c.if-is_refused.false
     in
     let sum_is : 46 + c.lines_length.result ≡ length (listing_of c.args.archive.now) =
-        length_accepted _ accepted (lines_read _ _ c.count_at-n.ensures) c.lines_length.ensures
+    length_accepted _ accepted (lines_read _ _ c.count_at-n.ensures) c.lines_length.ensures
     in
     omega (arith, sum_is, listing_at_most c.args.archive.now (λ i. (c.shared_slice_known-1.given i).fits))
 
 pub returns : goal.returns
 returns c =
     let accepted : refused c.args.archive.now ≡ false =
-        sym c.is_refused.ensures ∙ c.if-is_refused.false
+    sym c.is_refused.ensures ∙ c.if-is_refused.false
     in
     let sum_is : 46 + c.lines_length.result ≡ length (listing_of c.args.archive.now) =
-        length_accepted _ accepted (lines_read _ _ c.count_at-n.ensures) c.lines_length.ensures
+    length_accepted _ accepted (lines_read _ _ c.count_at-n.ensures) c.lines_length.ensures
     in
     sum_is

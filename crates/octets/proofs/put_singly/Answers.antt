@@ -1,5 +1,4 @@
 -- The invariant: the bytes so far are copied.
-use Prim.Native.Nat.{◌-◌}
 use native.Mathlib.Omega.{arith}
 use Rattle.octets.proofs.Splice.{copied_none, copied_more, copied_all}
 use Rattle.octets.proofs.put_singly.Goals as goal

@@ -1,6 +1,5 @@
 -- The loop's invariant: the product so far times the quantities that are left is the whole product.
 use mathlib.Core.Path.{refl, ◌∙◌}
-use Prim.Native.Nat.{◌-◌}
 use native.Mathlib.Omega.{arith}
 use Rattle.product.proofs.Limbs.{each_at, product_again, product_done}
 use Rattle.product.proofs.multiply.Goals as goal

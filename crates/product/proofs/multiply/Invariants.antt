@@ -7,7 +7,7 @@ use Rattle.product.proofs.Limbs.{Left}
 use Rattle.product.proofs.multiply.Given as goal
 
 abbrev pub invariant-loop-i : goal.invariant-loop-i
-invariant-loop-i l = 
+invariant-loop-i l =
     (l.i ≤ length l.quantities)
     × (l.m ≤ l.n + 2 * l.i)
     × (l.p ≤ l.depth + 1074 * l.i)

@@ -1,13 +1,11 @@
 -- The limbs below are cleared, and one column of a product with a power of two stands above them.
-use mathlib.Core.Path.{◌≡◌, refl, sym}
-use mathlib.Core.List.{◌++◌}
+use mathlib.Core.Path.{refl, sym}
 use Prim.Native.Nat.{◌/◌}
 use native.Mathlib.Omega.{arith}
-use lib.ListN.{length, drop, length-set}
+use lib.ListN.{length-set}
 use lib.Seq.{length-take-le, length_front}
 use Rattle.starts.proofs.Start.{lay_done, lay_stays}
 use Rattle.starts.proofs.lay.Goals as goal
-
 
 pub returns : goal.returns
 returns c =

@@ -7,7 +7,7 @@ use Rattle.listing.specs.Decimal.{decimal}
 use Rattle.listing.proofs.decimal.put_decimal.Given as goal
 
 abbrev pub invariant-loop-rest : goal.invariant-loop-rest
-invariant-loop-rest l = 
+invariant-loop-rest l =
     (l.last < l.end) × (l.last + 1 ≡ l.at + length (decimal l.rest)) × (length l.out ≡ length l.initial.out) × (splice l.out l.at (decimal l.rest) ≡ splice l.initial.out l.at (decimal l.x))
 
 abbrev pub decreases-loop-rest : goal.decreases-loop-rest

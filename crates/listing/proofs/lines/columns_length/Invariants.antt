@@ -6,7 +6,7 @@ use Rattle.listing.specs.Listing.{columns_text}
 use Rattle.listing.proofs.lines.columns_length.Given as goal
 
 abbrev pub invariant-loop-i : goal.invariant-loop-i
-invariant-loop-i l = 
+invariant-loop-i l =
     (l.i ≤ length l.columns) × (l.n ≤ 1 + 21 * l.i) × (l.n + length (columns_text (drop l.i l.columns)) ≡ 1 + length (columns_text l.columns))
 
 abbrev pub decreases-loop-i : goal.decreases-loop-i

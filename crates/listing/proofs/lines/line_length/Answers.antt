@@ -19,19 +19,15 @@ columns_length-requires c = omega (arith, length_columns _ c.columns_of-columns.
 pub overflow_add-result : goal.overflow_add-result
 overflow_add-result c =
     let sum_is : c.decimal_length.result + c.columns_length.result ≡ length (line_text c.args.number (line_of c.args.bytes.now)) =
-        
-        
-        let e = c.columns_length.ensures ∙ ap (λ (xs : List ℕ). length (columns_text xs)) c.columns_of-columns.ensures in
-        omega (arith, e, c.decimal_length.ensures, length_line c.args.number (line_of c.args.bytes.now))
+    let e = c.columns_length.ensures ∙ ap (λ (xs : List ℕ). length (columns_text xs)) c.columns_of-columns.ensures in
+    omega (arith, e, c.decimal_length.ensures, length_line c.args.number (line_of c.args.bytes.now))
     in
     omega (arith, sum_is, line_at_most c.args.bytes.now c.args.number (λ i. (c.shared_slice_known-1.given i).fits) (omega arith))
 
 pub returns : goal.returns
 returns c =
     let sum_is : c.decimal_length.result + c.columns_length.result ≡ length (line_text c.args.number (line_of c.args.bytes.now)) =
-        
-        
-        let e = c.columns_length.ensures ∙ ap (λ (xs : List ℕ). length (columns_text xs)) c.columns_of-columns.ensures in
-        omega (arith, e, c.decimal_length.ensures, length_line c.args.number (line_of c.args.bytes.now))
+    let e = c.columns_length.ensures ∙ ap (λ (xs : List ℕ). length (columns_text xs)) c.columns_of-columns.ensures in
+    omega (arith, e, c.decimal_length.ensures, length_line c.args.number (line_of c.args.bytes.now))
     in
     sum_is

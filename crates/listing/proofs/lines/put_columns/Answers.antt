@@ -1,7 +1,7 @@
 -- The invariant: the columns that are left, over the bytes as they are, make the bytes that are asked.
 use mathlib.Core.Path.{◌≡◌, refl, sym, ap, ◌∙◌}
 use mathlib.Core.List.{[], ◌∷◌}
-use Prim.Native.Nat.{◌+◌, ◌-◌}
+use Prim.Native.Nat.{◌+◌}
 use native.Mathlib.Omega.{arith}
 use lib.ListN.{length, get_or, drop, length-set}
 use Rattle.octets.specs.Bytes.{splice}
@@ -17,14 +17,14 @@ loop-i-init c = (omega arith, refl, refl, refl)
 pub bounds-out-at : goal.bounds-out-at
 bounds-out-at c =
     let more : (let l = c.loop-i in let xs = c.args.columns.now in length (columns_text (drop l.i xs)) ≡ 1 + length (decimal (get_or xs l.i 0)) + length (columns_text (drop (l.i + 1) xs))) =
-        length_columns_step _ _ c.loop-i-test.true
+    length_columns_step _ _ c.loop-i-test.true
     in
     omega (arith, more)
 
 pub overflow_add-at : goal.overflow_add-at
 overflow_add-at c =
     let more : (let l = c.loop-i in let xs = c.args.columns.now in length (columns_text (drop l.i xs)) ≡ 1 + length (decimal (get_or xs l.i 0)) + length (columns_text (drop (l.i + 1) xs))) =
-        length_columns_step _ _ c.loop-i-test.true
+    length_columns_step _ _ c.loop-i-test.true
     in
     omega (arith, more)
 
@@ -37,7 +37,7 @@ bounds-columns-i c = omega arith
 pub put_decimal-at-requires : goal.put_decimal-at-requires
 put_decimal-at-requires c =
     let more : (let l = c.loop-i in let xs = c.args.columns.now in length (columns_text (drop l.i xs)) ≡ 1 + length (decimal (get_or xs l.i 0)) + length (columns_text (drop (l.i + 1) xs))) =
-        length_columns_step _ _ c.loop-i-test.true
+    length_columns_step _ _ c.loop-i-test.true
     in
     simp length-set (omega (arith, more))
 
@@ -59,14 +59,14 @@ loop-i-preserved c =
 pub bounds-out-at-2 : goal.bounds-out-at-2
 bounds-out-at-2 c =
     let none_left : columns_text (drop c.loop-i.i c.args.columns.now) ≡ line_feed ∷ [] =
-        columns_end _ _ c.loop-i-test.false
+    columns_end _ _ c.loop-i-test.false
     in
     omega (arith, ap length none_left)
 
 pub overflow_add-result : goal.overflow_add-result
 overflow_add-result c =
     let none_left : columns_text (drop c.loop-i.i c.args.columns.now) ≡ line_feed ∷ [] =
-        columns_end _ _ c.loop-i-test.false
+    columns_end _ _ c.loop-i-test.false
     in
     omega (arith, ap length none_left)
 

@@ -7,7 +7,7 @@ use Rattle.listing.specs.Listing.{columns_text}
 use Rattle.listing.proofs.lines.put_columns.Given as goal
 
 abbrev pub invariant-loop-i : goal.invariant-loop-i
-invariant-loop-i l = 
+invariant-loop-i l =
     (l.i ≤ length l.columns) × (length l.out ≡ length l.initial.out) × (l.at + length (columns_text (drop l.i l.columns)) ≡ l.start + length (columns_text l.columns))
     × (splice l.out l.at (columns_text (drop l.i l.columns)) ≡ splice l.initial.out l.start (columns_text l.columns))
 

@@ -14,7 +14,7 @@ use Rattle.listing.proofs.lines.put_line.Goals as goal
 pub put_decimal-next-requires : goal.put_decimal-next-requires
 put_decimal-next-requires c =
     let lengths : (let a = c.args in length (line_text a.number (line_of a.bytes.now)) ≡ length (decimal a.number) + length (columns_text c.columns_of-columns.result)) =
-        let a = c.args in length_line a.number (line_of a.bytes.now) ∙ ap (λ (xs : List ℕ). length (decimal a.number) + length (columns_text xs)) (sym c.columns_of-columns.ensures)
+    let a = c.args in length_line a.number (line_of a.bytes.now) ∙ ap (λ (xs : List ℕ). length (decimal a.number) + length (columns_text xs)) (sym c.columns_of-columns.ensures)
     in
     omega (arith, lengths, c.requires)
 
@@ -25,7 +25,7 @@ pub put_columns-requires : goal.put_columns-requires
 put_columns-requires c =
     let a = c.args in
     let lengths : length (line_text a.number (line_of a.bytes.now)) ≡ length (decimal a.number) + length (columns_text c.columns_of-columns.result) =
-        length_line a.number (line_of a.bytes.now) ∙ ap (λ (xs : List ℕ). length (decimal a.number) + length (columns_text xs)) (sym c.columns_of-columns.ensures)
+    length_line a.number (line_of a.bytes.now) ∙ ap (λ (xs : List ℕ). length (decimal a.number) + length (columns_text xs)) (sym c.columns_of-columns.ensures)
     in
     omega (arith, lengths, c.put_decimal-next.ensures.0, c.put_decimal-next.auto.out, c.requires)
 
@@ -36,6 +36,6 @@ pub returns : goal.returns
 returns c =
     let a = c.args in
     let lengths : length (line_text a.number (line_of a.bytes.now)) ≡ length (decimal a.number) + length (columns_text c.columns_of-columns.result) =
-        length_line a.number (line_of a.bytes.now) ∙ ap (λ (xs : List ℕ). length (decimal a.number) + length (columns_text xs)) (sym c.columns_of-columns.ensures)
+    length_line a.number (line_of a.bytes.now) ∙ ap (λ (xs : List ℕ). length (decimal a.number) + length (columns_text xs)) (sym c.columns_of-columns.ensures)
     in
     (omega (arith, lengths, c.put_columns.ensures.0, c.put_decimal-next.ensures.0), line_written c.args.out.now c.args.at c.args.number (line_of c.args.bytes.now) c.put_decimal-next.ensures.1 c.put_columns.ensures.1 c.columns_of-columns.ensures c.put_decimal-next.ensures.0 c.requires.1)

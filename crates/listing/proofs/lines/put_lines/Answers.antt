@@ -1,6 +1,6 @@
 -- The invariant: the lines from record k on, over the bytes as they are, make the bytes that are asked.
 use mathlib.Core.Path.{refl, sym, ap, ◌∙◌}
-use Prim.Native.Nat.{◌+◌, ◌*◌, ◌-◌, ◌≤◌}
+use Prim.Native.Nat.{◌+◌, ◌*◌, ◌≤◌}
 use native.Mathlib.Omega.{arith}
 use Rattle.octets.specs.Bytes.{splice}
 use Rattle.octets.proofs.Splice.{splice_nil, splice_join}
@@ -16,14 +16,14 @@ loop-k-init c = (omega arith, refl, refl, refl)
 pub overflow_mul-from : goal.overflow_mul-from
 overflow_mul-from c =
     let inside : let a = c.args in a.width * c.loop-k.k + a.width ≤ a.width * a.n =
-        let a = c.args in record_inside a.width a.n c.loop-k.k c.loop-k-test.true
+    let a = c.args in record_inside a.width a.n c.loop-k.k c.loop-k-test.true
     in
     omega (arith, inside)
 
 pub overflow_add-from : goal.overflow_add-from
 overflow_add-from c =
     let inside : let a = c.args in a.width * c.loop-k.k + a.width ≤ a.width * a.n =
-        let a = c.args in record_inside a.width a.n c.loop-k.k c.loop-k-test.true
+    let a = c.args in record_inside a.width a.n c.loop-k.k c.loop-k-test.true
     in
     omega (arith, inside)
 
@@ -33,14 +33,14 @@ slice_bounds-put_line-count c = omega arith
 pub slice_bounds-put_line-start : goal.slice_bounds-put_line-start
 slice_bounds-put_line-start c =
     let inside : let a = c.args in a.width * c.loop-k.k + a.width ≤ a.width * a.n =
-        let a = c.args in record_inside a.width a.n c.loop-k.k c.loop-k-test.true
+    let a = c.args in record_inside a.width a.n c.loop-k.k c.loop-k-test.true
     in
     omega (arith, inside)
 
 pub slice_bounds-put_line-end : goal.slice_bounds-put_line-end
 slice_bounds-put_line-end c =
     let inside : let a = c.args in a.width * c.loop-k.k + a.width ≤ a.width * a.n =
-        let a = c.args in record_inside a.width a.n c.loop-k.k c.loop-k-test.true
+    let a = c.args in record_inside a.width a.n c.loop-k.k c.loop-k-test.true
     in
     omega (arith, inside)
 

@@ -1,6 +1,5 @@
 -- The loop's invariant: the limbs below i and the carry are the sum of those at entry.
 use mathlib.Core.Path.{ap, ◌∙◌}
-use Prim.Native.Nat.{◌-◌}
 use native.Mathlib.Omega.{arith}
 use lib.ListN.{length-set}
 use lib.Seq.{take_all}

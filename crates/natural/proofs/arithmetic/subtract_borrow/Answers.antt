@@ -1,5 +1,4 @@
 -- The loop's invariant: the limbs below i and what is left to borrow are the difference.
-use Prim.Native.Nat.{◌-◌}
 use native.Mathlib.Omega.{arith}
 use lib.ListN.{length-set}
 use Rattle.natural.proofs.Carry.{start, borrowed_again, borrowed_end, borrowed_stopped}

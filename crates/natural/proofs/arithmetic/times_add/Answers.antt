@@ -1,6 +1,5 @@
 -- The loop's invariant: the limbs below i and the carry are the product of those at entry, and `more`.
 use mathlib.Core.Path.{◌∙◌}
-use Prim.Native.Nat.{◌-◌}
 use native.Mathlib.Omega.{arith}
 use lib.ListN.{length-set}
 use Rattle.natural.proofs.Carry.{start, carried_again, carried_end}

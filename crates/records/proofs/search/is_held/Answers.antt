@@ -1,13 +1,8 @@
 -- The invariant: no record before k is the same filing.
-use mathlib.Core.Path.{◌≡◌, sym, ◌∙◌}
-use mathlib.Core.Bool.{false, ◌&&◌}
-use Prim.Native.Nat.{◌-◌}
+use mathlib.Core.Path.{sym, ◌∙◌}
 use native.Mathlib.Omega.{arith}
 use borrow.Author.Count.{below_none, below_more}
-use lib.Dec.{eqb}
-use lib.ListN.{get_or}
-use Rattle.records.specs.Layout.{no_line, first_lines, record_size}
-use Rattle.records.specs.Lines.{same_filing}
+use Rattle.records.specs.Layout.{record_size}
 use Rattle.records.proofs.RecordLaws.{length_first_lines}
 use Rattle.records.proofs.SameFiling.{same_numbers}
 use Rattle.records.proofs.HeldLine.{held_at, held_nowhere}

@@ -1,6 +1,6 @@
 -- The invariant of the outer loop: best is the worst of the records up to k, with the figure top. In the inner one x is the figure of record k.
 use mathlib.Core.Path.{◌≡◌, sym, ◌∙◌}
-use Prim.Native.Nat.{ℕ, ◌+◌, ◌*◌, ◌-◌, ◌≤◌, ◌<◌}
+use Prim.Native.Nat.{ℕ, ◌+◌, ◌*◌, ◌≤◌, ◌<◌}
 use native.Mathlib.Nat.{mul-zero, zero-add}
 use native.Mathlib.Omega.{arith}
 use Rattle.records.specs.Layout.{first_lines}

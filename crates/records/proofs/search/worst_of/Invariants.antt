@@ -7,7 +7,7 @@ use Rattle.records.proofs.WorstScan.{Scanned, Looked}
 use Rattle.records.proofs.search.worst_of.Given as goal
 
 abbrev pub invariant-loop-x-2 : goal.invariant-loop-x-2
-invariant-loop-x-2 l = 
+invariant-loop-x-2 l =
     (l.initial.k ≤ l.k) × (l.k < l.n) × (l.k ≡ l.initial.k → l.x ≤ l.top) × Looked (figure_of l.compartment (first_lines l.width l.n l.archive)) l.k l.best l.top l.x
 
 abbrev pub decreases-loop-x-2 : goal.decreases-loop-x-2
