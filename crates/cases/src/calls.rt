@@ -102,13 +102,11 @@ pub fn worst(output: &mut Output, archive: &[u8], used: u64, compartment: u64) {
 
 // Bytes as they are, by eights.
 fn write_bytes(output: &mut Output, bytes: &[u8]) {
-    let mut i = 0;
-    while i < bytes.len() {
+    for (i, b) in bytes.iter().enumerate() {
         if i % 8 == 0 {
             write(output, b" ");
         }
-        output.write_hexadecimal(bytes[i]);
-        i += 1;
+        output.write_hexadecimal(*b);
     }
 }
 
