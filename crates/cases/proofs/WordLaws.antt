@@ -2,19 +2,16 @@
 --   rest_is, parts_at, parts_end    the parts of what is left of a text
 --   same_is                         whether two are the same
 --   place_here, place_next, place_end   a word's place, from some word on
-use mathlib.Core.Path.{◌≡◌, refl, sym, ap, ◌∙◌}
+use mathlib.Core.Path.{◌≡◌, refl}
 use mathlib.Core.Bool.{Bool, true, false}
 use mathlib.Core.List.{List, [], ◌∷◌}
 use Prim.Native.Nat.{ℕ, suc, ◌+◌, ◌-◌, ◌≤◌, ◌<◌}
-use native.Mathlib.Nat.{zero-add}
 use native.Mathlib.Numerals.{add-one}
 use native.Mathlib.Omega.{arith}
-use borrow.Author.Tests.{eq-eqb, eqb-true}
 use lib.Dec.{eqb}
 use lib.Pointwise.{pointwise}
 use lib.ListN.{length, take, drop, length-drop, drop_of_length-le}
-use lib.Seq.{take-length, take_all, drop-drop}
-use Rattle.octets.proofs.Bools.{both}
+use lib.Seq.{take_all, drop-drop}
 use Rattle.cases.specs.Words.{index_of, onto, parts_of, words_of, same_word, place_in}
 
 -- ── parts

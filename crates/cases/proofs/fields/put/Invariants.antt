@@ -6,7 +6,7 @@ use Rattle.octets.specs.Bytes.{bytes_of, splice}
 use Rattle.cases.proofs.fields.put.Given as goal
 
 abbrev pub invariant-loop-i : goal.invariant-loop-i
-invariant-loop-i l = 
+invariant-loop-i l =
     (l.i ≤ l.width)
     × (length l.fields ≡ length l.initial.fields)
     × (l.rest / 256 ^ (l.width - l.i) ≡ l.x / 256 ^ l.width)

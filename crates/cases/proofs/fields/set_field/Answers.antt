@@ -1,5 +1,5 @@
 -- A number alone, or behind the name of its field.
-use Rattle.std.proofs.Common.{◌≡◌, take, sym}
+use Rattle.std.proofs.Common.{◌≡◌, take}
 use Rattle.listing.specs.Listing.{codes}
 use Rattle.cases.specs.Words.{place_in}
 use Rattle.cases.specs.Fields.{field_names}

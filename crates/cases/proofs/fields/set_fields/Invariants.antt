@@ -8,7 +8,7 @@ use Rattle.cases.specs.Fields.{are_fields, with_fields}
 use Rattle.cases.proofs.fields.set_fields.Given as goal
 
 abbrev pub invariant-loop-at : goal.invariant-loop-at
-invariant-loop-at l = 
+invariant-loop-at l =
     (l.at ≤ length l.text + 1)
     × (length l.fields ≡ length l.initial.fields)
     × ((l.all && are_fields (words_of (drop l.at l.text))) ≡ are_fields (words_of l.text))

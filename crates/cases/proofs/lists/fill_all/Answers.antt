@@ -1,6 +1,5 @@
 -- The first k are there.
 use mathlib.Core.Path.{refl}
-use Prim.Native.Nat.{◌-◌}
 use native.Mathlib.Omega.{arith}
 use borrow.Author.Rules.{rules}
 use Rattle.cases.proofs.CallLaws.{filled_none, filled_more, filled_all}
