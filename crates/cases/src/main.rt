@@ -22,6 +22,9 @@ use std::io;
 use std::io::Read;
 use words::{first, index_of};
 
+// The most bytes of the text that are read.
+const MOST_TEXT: u64 = 65536;
+
 // How many bytes of the buffer are the archive, and how many of these are used.
 #[derive(Clone, Copy)]
 struct State {
@@ -144,7 +147,7 @@ fn run(output: &mut Output, text: &[u8], buffer: &mut [u8])
 
 fn main(rt: HostRuntime) -> io::Result<()> {
     let mut text = Vec::new(rt.alloc());
-    rt.stdin().take(65536).read_to_end(&mut text)?;
+    rt.stdin().take(MOST_TEXT).read_to_end(&mut text)?;
     let mut buffer = [7u8; 65584];
     let mut output = Output::new(rt.stdout());
     run(&mut output, &text, &mut buffer);
