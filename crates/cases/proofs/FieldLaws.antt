@@ -12,14 +12,13 @@ use native.Mathlib.Omega.{arith}
 use borrow.Author.Tests.{eq-eqb, ne_eqb}
 use lib.Dec.{eqb}
 use lib.ListN.{length, take, drop, set}
-use Rattle.bytes.specs.Bytes.{index_of}
 use Rattle.octets.specs.Bytes.{bytes_of, splice}
 use Rattle.octets.proofs.Numbers.{length_bytes_of}
 use Rattle.octets.proofs.Splice.{splice_nil, splice_join}
 use Rattle.listing.proofs.Stores.{store_one}
 use Rattle.cases.specs.declared.numbers.Read.{Read}
 use Rattle.cases.specs.declared.numbers.Read.TheVariants.{Number, Nothing}
-use Rattle.cases.specs.Words.{words_of, place_in}
+use Rattle.cases.specs.Words.{index_of, words_of, place_in}
 use Rattle.cases.specs.Numbers.{number_in}
 use Rattle.cases.specs.Fields.{field_names, field_at, width_of, sign_in, field_of, value_of, fits, with_number, is_field, with_field, are_fields, with_fields}
 use Rattle.cases.proofs.WordLaws.{rest_of, rest_is, parts_at, parts_end}

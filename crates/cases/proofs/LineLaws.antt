@@ -11,8 +11,7 @@ use borrow.Author.Tests.{leb-true, leb-false, eq-eqb, ne_eqb}
 use lib.Dec.{leb}
 use lib.ListN.{length, take, drop, drop_of_length-le}
 use lib.Seq.{take_all}
-use Rattle.bytes.specs.Bytes.{index_of}
-use Rattle.cases.specs.Words.{words_of, lines_of, place_in}
+use Rattle.cases.specs.Words.{index_of, words_of, lines_of, place_in}
 use Rattle.cases.specs.Fields.{are_fields, with_fields, plain_number}
 use Rattle.cases.specs.Calls.{call_names, call_in, words_in, blank, fields_in, size_after, used_after, bytes_after, size_by, used_by, buffer_by, size_on, used_on, buffer_on, buffer_after}
 use Rattle.cases.proofs.WordLaws.{rest_of, rest_is, parts_at, parts_end}

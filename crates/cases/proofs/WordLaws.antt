@@ -1,45 +1,39 @@
 -- Laws of words and lines.
---   first_is, index_inside          the first such byte of a text
 --   rest_is, parts_at, parts_end    the parts of what is left of a text
 --   same_is                         whether two are the same
 --   place_here, place_next, place_end   a word's place, from some word on
-use mathlib.Core.Path.{◌≡◌, refl, sym, ap, ◌∙◌}
+use mathlib.Core.Path.{◌≡◌, refl}
 use mathlib.Core.Bool.{Bool, true, false}
 use mathlib.Core.List.{List, [], ◌∷◌}
 use Prim.Native.Nat.{ℕ, suc, ◌+◌, ◌-◌, ◌≤◌, ◌<◌}
-use native.Mathlib.Nat.{zero-add}
 use native.Mathlib.Numerals.{add-one}
 use native.Mathlib.Omega.{arith}
-use borrow.Author.Tests.{eq-eqb, eqb-true}
 use lib.Dec.{eqb}
+use lib.Pointwise.{pointwise}
 use lib.ListN.{length, take, drop, length-drop, drop_of_length-le}
-use lib.Seq.{take-length, take_all, drop-drop}
-use Rattle.bytes.specs.Bytes.{slice, index_of, index_after}
-use Rattle.octets.proofs.Bools.{both}
-use Rattle.cases.specs.Words.{onto, parts_of, words_of, same_word, place_in}
-
-pub first_is : (b : ℕ) (l : List ℕ) → 0 + index_of b (slice 0 (length l) l) ≡ index_of b l
-unfolding slice
-first_is b l = rw (zero-add, take-length)
-
-inside_by : (p : Bool) (k n : ℕ) → k ≤ n → index_after p k ≤ suc n
-unfolding index_after
-inside_by true k n h = omega arith
-inside_by false k n h = omega arith
-
-pub index_inside : (b : ℕ) (l : List ℕ) → index_of b l ≤ length l
-unfolding index_of
-index_inside b [] = omega arith
-index_inside b (x ∷ l) = inside_by (eqb x b) (index_of b l) (length l) (index_inside b l)
+use lib.Seq.{take_all, drop-drop}
+use Rattle.cases.specs.Words.{index_of, onto, parts_of, words_of, same_word, place_in}
 
 -- ── parts
 
+index_none : (s : ℕ) → index_of s [] ≡ 0
+unfolding index_of
+index_none s = refl
+
+index_here : (s b : ℕ) (bs : List ℕ) → eqb b s ≡ true → index_of s (b ∷ bs) ≡ 0
+unfolding index_of
+index_here s b bs e = rw e
+
+index_next : (s b : ℕ) (bs : List ℕ) → eqb b s ≡ false → index_of s (b ∷ bs) ≡ suc (index_of s bs)
+unfolding index_of
+index_next s b bs e = rw e (omega arith)
+
 step_by : (s b : ℕ) (bs : List ℕ) (p : Bool) → eqb b s ≡ p → (0 < length bs → parts_of s bs ≡ take (index_of s bs) bs ∷ parts_of s (drop (index_of s bs + 1) bs))
     → parts_of s (b ∷ bs) ≡ take (index_of s (b ∷ bs)) (b ∷ bs) ∷ parts_of s (drop (index_of s (b ∷ bs) + 1) (b ∷ bs))
-unfolding parts_of onto index_of index_after
-step_by s b bs true e h = rw e
-step_by s b [] false e h = rw e
-step_by s b (x ∷ bs) false e h = rw (e, h (omega arith), add-one, add-one)
+unfolding parts_of onto
+step_by s b bs true e h = rw (e, index_here s b bs e)
+step_by s b [] false e h = rw (e, index_next s b [] e, index_none s)
+step_by s b (x ∷ bs) false e h = rw (e, index_next s b (x ∷ bs) e, h (omega arith), add-one, add-one)
 
 parts_step : (s : ℕ) (l : List ℕ) → 0 < length l → parts_of s l ≡ take (index_of s l) l ∷ parts_of s (drop (index_of s l + 1) l)
 parts_step s [] h = absurd (omega arith)
@@ -63,26 +57,12 @@ parts_end s l at h = rw (drop_of_length-le l h)
 
 -- ── the same
 
-same_refl : (l : List ℕ) → same_word l l ≡ true
+pub same_is : (a b : List ℕ) → pointwise eqb a b ≡ same_word a b
 unfolding same_word
-same_refl [] = refl
-same_refl (x ∷ l) = rw (eq-eqb x x refl, same_refl l)
-
-same_only : (a b : List ℕ) → same_word a b ≡ true → a ≡ b
-unfolding same_word
-same_only [] [] e = refl
-same_only [] (y ∷ b) e = let z : ◌≡◌ {A = ℕ} 0 1 = cc in absurd (omega arith)
-same_only (x ∷ a) [] e = let z : ◌≡◌ {A = ℕ} 0 1 = cc in absurd (omega arith)
-same_only (x ∷ a) (y ∷ b) e = let p = both (eqb x y) (same_word a b) e in rw (eqb-true x y p.0, same_only a b p.1)
-
-same_by : (r s : Bool) → (r ≡ true → s ≡ true) → (s ≡ true → r ≡ true) → r ≡ s
-same_by true true f g = refl
-same_by true false f g = sym (f refl)
-same_by false true f g = g refl
-same_by false false f g = refl
-
-pub same_is : (r : Bool) (a b : List ℕ) → (r ≡ true → a ≡ b) → (a ≡ b → r ≡ true) → r ≡ same_word a b
-same_is r a b f g = same_by r (same_word a b) (λ e. ap (same_word a) (sym (f e)) ∙ same_refl a) (λ e. g (same_only a b e))
+same_is [] [] = refl
+same_is [] (y ∷ b) = refl
+same_is (x ∷ a) [] = refl
+same_is (x ∷ a) (y ∷ b) = rw (same_is a b)
 
 -- ── a word's place, n words behind the first
 

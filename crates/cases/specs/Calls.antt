@@ -1,6 +1,5 @@
 -- The used length, the size of the archive and the buffer after a line.
 use Rattle.std.specs.Prelude.{Bool, ◌&&◌, cond, List, [], ◌∷◌, ◌++◌, ℕ, zero, suc, ◌+◌, ◌*◌, ◌/◌, ltb, leb, eqb, length, take, drop, set, replicate}
-use Rattle.bytes.specs.Bytes.{index_of}
 use Rattle.listing.specs.Listing.{codes}
 use Rattle.kinds.specs.Builder.{case_bytes}
 use Rattle.records.specs.Layout.{Line, line_of}
@@ -8,7 +7,7 @@ use Rattle.records.specs.Buffer.{written}
 use Rattle.archive.specs.Offers.{offer}
 use Rattle.archive.specs.Answers.{of_emptied, of_filing, used_in}
 use Rattle.archive.specs.Archive.{emptying, empty_bytes, filing, file_bytes}
-use Rattle.cases.specs.Words.{words_of, place_in}
+use Rattle.cases.specs.Words.{index_of, words_of, place_in}
 use Rattle.cases.specs.Fields.{are_fields, with_fields, plain_number, record_in, case_in}
 
 unfoldable pub call_names : List (List ℕ)

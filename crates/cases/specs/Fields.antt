@@ -1,12 +1,11 @@
 -- The fields of a call, 105 bytes: the number of a call that has one, 8 bytes; a record, which is a case of 64 bytes and four figures; and how many
 -- bytes of the record are handed over as the case.
 use Rattle.std.specs.Prelude.{Bool, false, true, not, ◌&&◌, cond, List, [], ◌∷◌, ℕ, ◌+◌, ◌-◌, ◌*◌, ◌/◌, ◌^◌, min, leb, eqb, length, take, drop}
-use Rattle.bytes.specs.Bytes.{index_of}
 use Rattle.octets.specs.Bytes.{bytes_of, number_at, splice}
 use Rattle.listing.specs.Listing.{codes}
 use Rattle.cases.specs.declared.numbers.Read.{Read}
 use Rattle.cases.specs.declared.numbers.Read.TheVariants.{Number, Nothing}
-use Rattle.cases.specs.Words.{words_of, place_in}
+use Rattle.cases.specs.Words.{index_of, words_of, place_in}
 use Rattle.cases.specs.Numbers.{number_in}
 
 -- the number has no name

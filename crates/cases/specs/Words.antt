@@ -1,5 +1,10 @@
 -- The parts of a text, as its words and lines are, and the place of a word among others.
-use Rattle.std.specs.Prelude.{Bool, true, false, ◌&&◌, cond, List, [], ◌∷◌, ℕ, suc, eqb}
+use Rattle.std.specs.Prelude.{Bool, true, false, ◌&&◌, cond, List, [], ◌∷◌, ℕ, suc, ◌==◌, eqb}
+use Rattle.std.specs.List.{position_or_len}
+
+-- the place of the first byte b; the length where there is none
+unfoldable pub index_of : ℕ → List ℕ → ℕ
+index_of b l = position_or_len (λ x. x == b) l
 
 -- a byte in front of the first part
 unfoldable pub onto : ℕ → List (List ℕ) → List (List ℕ)

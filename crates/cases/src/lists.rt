@@ -7,30 +7,31 @@ ghost use Rattle.cases.specs.Calls.{recorded_length, recorded_bytes, grown, fill
 
 use crate::calls::{write, write_number};
 use crate::numbers::least;
+use crate::output::Output;
 use listing::{Listed, MOST_OUTPUT};
 use octets::put_u64;
 use records::{figures_at, put_line};
 
 // Prints the listing by way of a buffer; all of the buffer, which is as it was, where that is too short.
-fn list_by(archive: &[u8], out: &mut [u8])
+fn list_by(output: &mut Output, archive: &[u8], out: &mut [u8])
     ensures { out.new ≡ listed_bytes archive.now out.old }
 {
     let mut written = out.len() as u64;
     match listing::print(archive, out) {
         Listed::Written(n) => written = n,
-        Listed::Needs(n) => write_number(b": needs ", n),
+        Listed::Needs(n) => write_number(output, b": needs ", n),
     }
-    write(b"\n");
+    write(output, b"\n");
     let end = least(written, out.len());
-    write(&out[0..end]);
+    write(output, &out[0..end]);
 }
 
 // With a buffer of some size.
-pub fn list(archive: &[u8], used: u64, size: u64) {
+pub fn list(output: &mut Output, archive: &[u8], used: u64, size: u64) {
     let mut out = [b'.'; MOST_OUTPUT];
     let end = least(used, archive.len());
     let n = least(size, MOST_OUTPUT);
-    list_by(&archive[0..end], &mut out[0..n]);
+    list_by(output, &archive[0..end], &mut out[0..n]);
 }
 
 // Puts a record behind the records, whatever its bytes are, and gives the used length after it.
