@@ -108,6 +108,8 @@ target/toolchain: FORCE
 
 c-test: $(LIB)
 	@$(needs-cc)
+	@$(call needs,nm,it comes with the linker)
+	@tests/exports
 	@mkdir -p target/c
 	@sed -n '/^```c$$/,/^```$$/{/^```/!p}' README.md >target/c/readme.c
 	@$(CC) $(CFLAGS) -Iinclude target/c/readme.c $(LIB) -o target/c/readme
