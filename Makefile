@@ -1,6 +1,6 @@
 # make run      builds the library and the command, and shows the main job on an example
-# make test     everything: what the documents name, every proof, must-fail edit and program from nothing, then the C interface, the
-#               host side against an independent model and the installation; the last line is the toolchain's 'N passed, M failed'
+# make test     everything: what the documents name, every proof, must-fail edit and program, then the C interface, the host side
+#               against an independent model and the installation; the last line is the toolchain's 'N passed, M failed'
 # make check    the proofs, of what changed since the last run only, and the programs
 # make lib      the static library target/staticlib/libcsorvelin.a, proved before it is built
 # make list     the program target/bin/list, which prints an archive, proved before it is built
@@ -47,17 +47,20 @@ comma = ,
 help:
 	@while IFS= read -r line && [[ $$line == '#'* ]]; do echo "$${line#??}"; done <Makefile
 
-# The library under test is built from the crates as the gate proved them, so that nothing is proved twice. `rt ci` removes
-# target/ first; what it said is kept elsewhere, and its last line is said again when all has passed.
+# The library under test is built over the crates as `rt ci` has proved them, and the program `list` is the one that it ran. It
+# passes where a must-fail edit cannot be applied, so that is looked for. Its last line is said again when all has passed.
 test: trace results layout
 	@$(needs-rt)
-	@rt fmt --check
-	@said=$$(mktemp) && trap 'rm -f "$$said"' EXIT && rt ci | tee "$$said" && \
+	@said=$$(mktemp) && trap 'rm -f "$$said"' EXIT && rt ci | tee "$$said" && $(call all-edits-count,"$$said") && \
+	    $(MAKE) --no-print-directory target/toolchain && install -D $(call product,list,list) $(LIST) && \
 	    $(MAKE) --no-print-directory straight c-test host-test install-test && tail -n 1 "$$said"
+
+all-edits-count = { grep -q '^rt: ok' $(1) && ! grep -qE '^rt: ok.*, [1-9][0-9]* bad' $(1) || \
+    { echo 'test: a must-fail edit cannot be applied or read; BAD EDIT above says which'; exit 1; }; }
 
 check:
 	@$(needs-rt)
-	@rt check
+	@rt all test
 
 # The names in docs/TRACE.md and docs/ARCHITECTURE.md are those of the code.
 trace:
@@ -79,21 +82,24 @@ lib: $(LIB)
 
 list: $(LIST)
 
-# What rt prints stands in target/NAME.log; each crate that it proves is said at once.
-said = 2>&1 | tee target/$(1).log | { grep --line-buffered -E '^rt: .* proved \([0-9]' || true; } || { cat target/$(1).log; exit 1; }
+# What rt makes of a crate.
+product = crates/$(1)/out/$(2)
+# What rt prints stands in target/NAME.log; each crate that it begins to prove is said at once.
+said = 2>&1 | tee target/$(1).log | sed -un 's/^rt: chose .* for \([a-z0-9_]*\)$$/$(1): \1/p' || { cat target/$(1).log; exit 1; }
 
-# `rt check` proves crates side by side, `rt staticlib` one after another.
 $(LIB): $(SOURCES) target/toolchain
 	@$(needs-rt)
-	@echo 'lib: proving what is not proved yet, two or three minutes from nothing'
-	@{ rt check emission archive && rt staticlib csorvelin && touch $@; } $(call said,lib)
+	@echo 'lib: proving what is not proved yet'
+	@(cd crates/csorvelin_c && rt lib) $(call said,lib)
+	@install -D -m 644 $(call product,csorvelin_c,libcsorvelin_c.a) $@
 
-# Behind the library, so that one rt is at work at a time. A program that was removed is not built again while it counts as
-# proved.
+# Behind the library, so that one rt is at work at a time. The program has to print what `rt ci` wants of it.
 $(LIST): $(SOURCES) target/toolchain | $(LIB)
-	@echo 'list: proving what is not proved yet, half a minute'
-	@[ -x $@ ] || rm -f target/stamp/list
-	@{ rt check list && touch $@; } $(call said,list)
+	@$(needs-rt)
+	@echo 'list: proving what is not proved yet'
+	@(cd crates/list && rt run <stdin 3>&1 >$(CURDIR)/target/list.out 2>&3) $(call said,list)
+	@cmp crates/list/stdout target/list.out
+	@install -D $(call product,list,list) $@
 
 # The toolchain's identity: another one proves anew. Who installs what is built needs none.
 target/toolchain: FORCE
@@ -102,6 +108,8 @@ target/toolchain: FORCE
 
 c-test: $(LIB)
 	@$(needs-cc)
+	@$(call needs,nm,it comes with the linker)
+	@tests/exports
 	@mkdir -p target/c
 	@sed -n '/^```c$$/,/^```$$/{/^```/!p}' README.md >target/c/readme.c
 	@$(CC) $(CFLAGS) -Iinclude target/c/readme.c $(LIB) -o target/c/readme
@@ -167,7 +175,7 @@ bench: $(LIB)
 
 fmt:
 	@$(needs-rt)
-	@rt fmt
+	@for crate in crates/*; do (cd "$$crate" && rt fmt) || exit 1; done
 
 clean:
-	@rm -rf target host/target
+	@rm -rf target host/target crates/*/out
