@@ -76,6 +76,7 @@ layout:
 
 # Filing writes into the archive that it is lent, with no record put together elsewhere.
 straight: $(LIB)
+	@$(needs-rt)
 	@tests/straight
 
 lib: $(LIB)
