@@ -1,7 +1,7 @@
 -- Laws on rounding up over 2 ^ k * d, where the largest u64 is 18446744073709551615.
 --   divided_by_one  `divide_out` where d is 1
 --   rounded         `quotient_up`: a shift, a division, and one more where anything is left
---   all_below_lem       `round_up` where all limbs fall below 2 ^ k
+--   all_below       `round_up` where all limbs fall below 2 ^ k
 --   not_below       `round_up` where not
 --   left_down, none_down, some_down, some_below   what they leave in the limbs
 use mathlib.Core.Path.{◌≡◌, sym, ap, ◌∙◌}
@@ -55,8 +55,8 @@ none_down l k d h n hd =
     let e : value l ≡ 0 * (2 ^ k * d) + value l = omega arith in
     value_none l (k / 32) n ∙ sym (digits_div 0 b) ∙ ap (λ (z : ℕ). z / (2 ^ k * d)) (sym e)
 
-pub all_below_lem : (l : List ℕ) (k d : ℕ) → ((i : ℕ) → get_or l i 0 < 4294967296) → length l ≤ k / 32 → 0 < d → min 1 (value l) ≡ min 18446744073709551615 (ceiling (value l) (2 ^ k * d))
-all_below_lem l k d h n hd =
+pub all_below : (l : List ℕ) (k d : ℕ) → ((i : ℕ) → get_or l i 0 < 4294967296) → length l ≤ k / 32 → 0 < d → min 1 (value l) ≡ min 18446744073709551615 (ceiling (value l) (2 ^ k * d))
+all_below l k d h n hd =
     let b : value l < 2 ^ k * d = omega (arith, value_small l k h n, le-mul_of_pos_right (2 ^ k) hd) in
     let e : value l ≡ 0 * (2 ^ k * d) + value l = omega arith in
     let t : ceiling (value l) (2 ^ k * d) ≡ 0 + min 1 (value l) = ceiling_of (value l) (2 ^ k * d) 0 (value l) e b in

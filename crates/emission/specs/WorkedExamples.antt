@@ -2,7 +2,7 @@
 -- A second table of our own has the second route (`second_route`); each row of the default tables, and row 0, is in crate equations (`RowExamples`).
 use Rattle.std.specs.Prelude.{◌≡◌, List, [], ◌∷◌, ℕ, get_or}
 use Rattle.kinds.specs.Case.{refusal_of}
-use Rattle.kinds.specs.Builder.{case_bytes, hundred, sixteen, five, unit, three_quarters, half, quarter, eighth, thirty_second, sixty_fourth, two^-9, two^-10, two^-52, two^-54}
+use Rattle.kinds.specs.Builder.{case_bytes, hundred, sixteen, five, unit, three_quarters, half, quarter, eighth, thirty_second, sixty_fourth, two_to_minus_9, two_to_minus_10, two_to_minus_52, two_to_minus_54}
 use Rattle.product.specs.Ratio.{Ratio, ◌over◌, Same}
 use Rattle.equations.specs.RowExamples.{kg, nothing}
 use Rattle.emission.specs.Figures.{exact_values}
@@ -40,7 +40,7 @@ examples =
     -- P4: 0.14546875 kg
     ∷ (case_bytes 3 7 1 2 0 7 sixty_fourth 0 0 0 0 0 gives to_plant (kg 14546875 100000000))
     -- P5
-    ∷ (case_bytes 1 4 1 0 0 7 two^-10 two^-9 unit 0 0 0 gives to_plant (kg 1671 46720))
+    ∷ (case_bytes 1 4 1 0 0 7 two_to_minus_10 two_to_minus_9 unit 0 0 0 gives to_plant (kg 1671 46720))
     -- P6: 0.0665625 kg
     ∷ (case_bytes 6 1 1 0 0 7 sixty_fourth half 0 0 0 0 gives to_plant (kg 665625 10000000))
     -- P7
@@ -48,8 +48,8 @@ examples =
     -- P8: 4, 2, 1 kg
     ∷ (case_bytes 5 0 1 0 250 7 sixteen eighth half quarter eighth 0 gives exact (kg 4 1 ∷ nothing ∷ kg 2 1 ∷ kg 1 1 ∷ []))
     -- P9, and its neighbour, which passes
-    ∷ (case_bytes 5 0 1 0 250 7 sixteen eighth three_quarters quarter two^-52 0 gives refused 11)
-    ∷ (case_bytes 5 0 1 0 250 7 sixteen eighth three_quarters quarter two^-54 0 gives exact (kg 6 1 ∷ nothing ∷ kg 2 1 ∷ kg 8 18014398509481984 ∷ []))
+    ∷ (case_bytes 5 0 1 0 250 7 sixteen eighth three_quarters quarter two_to_minus_52 0 gives refused 11)
+    ∷ (case_bytes 5 0 1 0 250 7 sixteen eighth three_quarters quarter two_to_minus_54 0 gives exact (kg 6 1 ∷ nothing ∷ kg 2 1 ∷ kg 8 18014398509481984 ∷ []))
     -- P10
     ∷ (case_bytes 4 1 1 0 0 7 hundred unit unit 0 0 0 gives to_plant nothing)
     ∷ []

@@ -2,7 +2,7 @@
 --   constant_small                        each constant is at most 2 ^ 45
 --   older_positive, older_same            numbers of the older houses with row 0
 --   lost_fits                             a constant times the hundredths lost
---   figure_at_lem, figure_sum_at, figure_lost what the code returns for a row is the exact value rounded up; `figure` and `figure_sum` are in Multiplied
+--   figure_at, figure_sum_at, figure_lost what the code returns for a row is the exact value rounded up; `figure` and `figure_sum` are in Multiplied
 use mathlib.Core.Path.{◌≡◌, ap}
 use mathlib.Core.Bool.{true, ◌&&◌}
 use mathlib.Core.List.{List, [], ◌∷◌}
@@ -58,10 +58,10 @@ module _ (equation : ℕ → List (List Factor)) (d : ℕ) (ks : List ℕ) (t : 
   scaled m f = le_trans (mul-le-mul_right {m = get_or ks n 0} {n = 2 ^ 45} m constant_small) f
 
 -- an equation of one chain
-pub figure_at_lem : (l : ℕ → List Factor) (fs : List Factor) (ks : List ℕ) (row n d m r : ℕ) → r ≡ min largest64 (rounded_up (get_or ks n 0 over d · chain fs))
+pub figure_at : (l : ℕ → List Factor) (fs : List Factor) (ks : List ℕ) (row n d m r : ℕ) → r ≡ min largest64 (rounded_up (get_or ks n 0 over d · chain fs))
     → folded_from (λ i. l i ∷ []) d 1 ks ≡ true → n < length ks → 1 + n ≡ row → chain fs ≡ chain (others (l row)) → 0 < d → AtMost (chain fs) m → 2 ^ 45 * m ≤ largest64 * d
     → r ≡ rounded_up (micrograms (l row ∷ []))
-figure_at_lem l fs ks row n d m r u t h e o hd a f =
+figure_at l fs ks row n d m r u t h e o hd a f =
     let g = folded (get_or ks n 0) d (l row) (both (folds (get_or ks n 0) d (l row)) true (at_row (λ i. l i ∷ []) d ks t row n h e)).0 in
     figure (l row) fs (get_or ks n 0) d m r u o hd g.positive g.same a (scaled (λ i. l i ∷ []) d ks t row n h e m f)
 

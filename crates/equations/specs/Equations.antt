@@ -18,7 +18,7 @@ total (t ∷ ts) = chain t ⊕ total ts
 abbrev pub fixed : Ratio → Factor
 fixed r = number r.upper r.lower
 
--- ── equations 1 to 3: L life, A area, V volume, R density, N houses; `..At` with the numbers of a city row
+-- ── equations 1 to 3: L life, A area, V volume, R density, N houses; `.._at` with the numbers of a city row
 
 -- houses: 4000·c·30/L recent, 4000·c·(L − 30)/L older
 abbrev pub recent : Float → ℕ → List Factor

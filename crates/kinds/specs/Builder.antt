@@ -52,17 +52,17 @@ thirty_second = 0x3fa0000000000000
 abbrev pub sixty_fourth : ℕ
 sixty_fourth = 0x3f90000000000000
 
-abbrev pub two^-9 : ℕ
-two^-9 = 0x3f60000000000000
+abbrev pub two_to_minus_9 : ℕ
+two_to_minus_9 = 0x3f60000000000000
 
-abbrev pub two^-10 : ℕ
-two^-10 = 0x3f50000000000000
+abbrev pub two_to_minus_10 : ℕ
+two_to_minus_10 = 0x3f50000000000000
 
-abbrev pub two^-52 : ℕ
-two^-52 = 0x3cb0000000000000
+abbrev pub two_to_minus_52 : ℕ
+two_to_minus_52 = 0x3cb0000000000000
 
-abbrev pub two^-53 : ℕ
-two^-53 = 0x3ca0000000000000
+abbrev pub two_to_minus_53 : ℕ
+two_to_minus_53 = 0x3ca0000000000000
 
-abbrev pub two^-54 : ℕ
-two^-54 = 0x3c90000000000000
+abbrev pub two_to_minus_54 : ℕ
+two_to_minus_54 = 0x3c90000000000000

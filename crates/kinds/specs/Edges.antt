@@ -1,7 +1,7 @@
 -- The edges that paper 01 prints and those of request No. 2's sum, and each refusal with its number, as whole cases with their refusals, 0 for none.
 -- Paper 01, 'Pencil cases': "Edges: life 30 is 6, 31 passes; row 2 route 2 is 4, row 3 route 2 passes", and P8, P9.
 use Rattle.std.specs.Prelude.{List, [], ◌∷◌, ℕ, ◌+◌}
-use Rattle.kinds.specs.Builder.{case_bytes, million, ten_thousand, five_thousand, thousand, hundred, sixteen, five, unit, three_quarters, half, quarter, eighth, two^-52, two^-53, two^-54}
+use Rattle.kinds.specs.Builder.{case_bytes, million, ten_thousand, five_thousand, thousand, hundred, sixteen, five, unit, three_quarters, half, quarter, eighth, two_to_minus_52, two_to_minus_53, two_to_minus_54}
 
 pub record Edge : Type 0 where
   pub case : List ℕ
@@ -34,15 +34,15 @@ edges =
     ∷ (with_route 2 2 gives 4)
     ∷ (with_route 3 2 gives 0)
     ∷ (with_fractions half eighth gives 0)
-    ∷ (with_fractions three_quarters two^-52 gives 11)
-    ∷ (with_fractions three_quarters two^-53 gives 0)
-    ∷ (with_fractions three_quarters two^-54 gives 0)
+    ∷ (with_fractions three_quarters two_to_minus_52 gives 11)
+    ∷ (with_fractions three_quarters two_to_minus_53 gives 0)
+    ∷ (with_fractions three_quarters two_to_minus_54 gives 0)
     -- kind 8: b + c is 1; just above it, a tie that goes to 1, either way round; and beyond the tie
     ∷ (with_parts 1 unit three_quarters quarter gives 0)
-    ∷ (with_parts 2 unit unit two^-53 gives 0)
-    ∷ (with_parts 3 unit two^-53 unit gives 0)
-    ∷ (with_parts 2 unit unit (two^-53 + 1) gives 11)
-    ∷ (with_parts 3 unit (two^-53 + 1) unit gives 11)
+    ∷ (with_parts 2 unit unit two_to_minus_53 gives 0)
+    ∷ (with_parts 3 unit two_to_minus_53 unit gives 0)
+    ∷ (with_parts 2 unit unit (two_to_minus_53 + 1) gives 11)
+    ∷ (with_parts 3 unit (two_to_minus_53 + 1) unit gives 11)
     -- a is no part of the sum
     ∷ (with_parts 1 unit half half gives 0)
     ∷ []

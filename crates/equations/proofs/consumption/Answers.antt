@@ -11,7 +11,7 @@ use Rattle.equations.specs.Ranges.{Within, InRange}
 use Rattle.equations.specs.Constants.{numbers}
 use Rattle.equations.proofs.Chains.{others}
 use Rattle.equations.proofs.Multiplied.{term, product_of, chain_at_most, figure, small, within_each}
-use Rattle.equations.proofs.Tables.{figure_at_lem}
+use Rattle.equations.proofs.Tables.{figure_at}
 use Rattle.equations.proofs.consumption.Goals as goal
 
 -- with row 0: share, uses, grams, active, penetration
@@ -47,5 +47,5 @@ returns c =
     let n = c.if-head-eq0.false in
     let h = c.requires.0 in
     rw (ne_eqb a.head.row 0 n)
-    (figure_at_lem (λ row. term (consumption_at a.active a.penetration (hygiene_at row))) _ _ a.head.row _ _ _ _ c.product_up-2.ensures (c.consumption_constants-constants.ensures a.active a.penetration)
+    (figure_at (λ row. term (consumption_at a.active a.penetration (hygiene_at row))) _ _ a.head.row _ _ _ _ c.product_up-2.ensures (c.consumption_constants-constants.ensures a.active a.penetration)
     (omega (arith, c.consumption_constants-constants.type_inv)) (omega arith) refl (omega arith) (chain_at_most (a.active ∷ a.penetration ∷ []) (1 ∷ 1 ∷ []) c.requires.1.1.1.1) (omega arith))

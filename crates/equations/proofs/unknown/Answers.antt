@@ -11,7 +11,7 @@ use Rattle.equations.specs.Ranges.{Within, InRange}
 use Rattle.equations.specs.Constants.{numbers}
 use Rattle.equations.proofs.Chains.{others}
 use Rattle.equations.proofs.Multiplied.{term, product_of, chain_at_most, figure, small, within_each}
-use Rattle.equations.proofs.Tables.{figure_at_lem}
+use Rattle.equations.proofs.Tables.{figure_at}
 use Rattle.equations.proofs.unknown.Goals as goal
 
 -- with row 0: share, area, volume, density, active
@@ -52,4 +52,4 @@ returns c =
     let w = c.requires.2 in
     let h = c.requires.0 in
     rw (ne_eqb a.head.row 0 n)
-    (figure_at_lem (λ row. term (unknown_at a.active a.share (city_at row))) _ _ a.head.row _ _ _ _ c.product_up-2.ensures (c.unknown_constants-constants.ensures a.active a.share) (omega (arith, c.unknown_constants-constants.type_inv)) (omega arith) refl (omega arith) (chain_at_most (a.share ∷ a.active ∷ []) (1 ∷ 1 ∷ []) (w.0, (w.1.1.1.1.0, tt))) (omega arith))
+    (figure_at (λ row. term (unknown_at a.active a.share (city_at row))) _ _ a.head.row _ _ _ _ c.product_up-2.ensures (c.unknown_constants-constants.ensures a.active a.share) (omega (arith, c.unknown_constants-constants.type_inv)) (omega arith) refl (omega arith) (chain_at_most (a.share ∷ a.active ∷ []) (1 ∷ 1 ∷ []) (w.0, (w.1.1.1.1.0, tt))) (omega arith))

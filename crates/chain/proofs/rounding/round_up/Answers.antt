@@ -3,12 +3,12 @@ use mathlib.Core.Path.{refl, sym, ◌∙◌}
 use Prim.Native.Nat.{◌/◌}
 use native.Mathlib.Omega.{arith}
 use lib.Seq.{length-take-le}
-use Rattle.chain.proofs.RoundedUp.{all_below_lem, not_below, none_down, some_down, some_below}
+use Rattle.chain.proofs.RoundedUp.{all_below, not_below, none_down, some_down, some_below}
 use Rattle.chain.proofs.rounding.round_up.Goals as goal
 
 pub returns-then-limbs-j : goal.returns-then-limbs-j
 returns-then-limbs-j c = (
-  c.sticky.ensures ∙ all_below_lem _ _ _ (λ i. (c.slice_known-1.given i).fits) c.if-limbs-j.true c.requires,
+  c.sticky.ensures ∙ all_below _ _ _ (λ i. (c.slice_known-1.given i).fits) c.if-limbs-j.true c.requires,
   none_down _ _ _ (λ i. (c.slice_known-1.given i).fits) c.if-limbs-j.true c.requires,
   refl,
 )
