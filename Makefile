@@ -56,7 +56,7 @@ test: trace results layout
 	    $(MAKE) --no-print-directory straight c-test host-test install-test && tail -n 1 "$$said"
 
 all-edits-count = { grep -q '^rt: ok' $(1) && ! grep -qE '^rt: ok.*, [1-9][0-9]* bad' $(1) || \
-    { echo 'test: a must-fail edit cannot be applied or read; BAD EDIT above says which'; exit 1; }; }
+    { echo 'test: rt ci has not said rt: ok, or a must-fail edit is bad: BAD EDIT above says which'; exit 1; }; }
 
 check:
 	@$(needs-rt)
