@@ -5,35 +5,27 @@ use Rattle.equations.specs.Ranges.{InRange}
 use Rattle.emission.proofs.emissions_of.Goals as goal
 
 pub measured-requires : goal.measured-requires
-unfolding InRange emitted
 measured-requires c = rw c.in-Measured.is at c.requires
 
 pub unknown-requires : goal.unknown-requires
-unfolding InRange emitted
 unknown-requires c = rw c.in-Unknown.is at c.requires
 
 pub application-requires : goal.application-requires
-unfolding InRange emitted
 application-requires c = rw c.in-Application.is at c.requires
 
 pub sanitary-requires : goal.sanitary-requires
-unfolding InRange emitted
 sanitary-requires c = rw c.in-Sanitary.is at c.requires
 
 pub formulation-requires : goal.formulation-requires
-unfolding InRange emitted
 formulation-requires c = rw c.in-Formulation.is at c.requires
 
 pub consumption-requires : goal.consumption-requires
-unfolding InRange emitted
 consumption-requires c = rw c.in-Hygiene.is at c.requires
 
 pub toilets-requires : goal.toilets-requires
-unfolding InRange emitted
 toilets-requires c = rw c.in-Toilets.is at c.requires
 
 pub plastics-requires : goal.plastics-requires
-unfolding InRange emitted
 plastics-requires c = rw c.in-Plastics.is at c.requires
 
 pub returns-in-Measured : goal.returns-in-Measured
@@ -53,7 +45,6 @@ unfolding InRange emitted
 returns-in-Sanitary c = rw c.in-Sanitary.is (c.only_water-in-Sanitary.ensures.0 ∙ c.sanitary.ensures, c.only_water-in-Sanitary.ensures.1, c.only_water-in-Sanitary.ensures.2)
 
 pub returns-in-Formulation : goal.returns-in-Formulation
-unfolding InRange emitted
 returns-in-Formulation c = rw c.in-Formulation.is c.formulation.ensures
 
 pub returns-in-Hygiene : goal.returns-in-Hygiene
@@ -65,5 +56,4 @@ unfolding InRange emitted
 returns-in-Toilets c = rw c.in-Toilets.is (c.only_water-in-Toilets.ensures.0 ∙ c.toilets.ensures, c.only_water-in-Toilets.ensures.1, c.only_water-in-Toilets.ensures.2)
 
 pub returns-in-Plastics : goal.returns-in-Plastics
-unfolding InRange emitted
 returns-in-Plastics c = rw c.in-Plastics.is c.plastics.ensures

@@ -20,5 +20,5 @@ returns c =
     let e = c.loads_of-loads.ensures ∙ ap loads_of (c.figures_of-record.ensures.1 ∙ ap record_figures c.show.ensures) ∙ sym (exported_loads _ _ _ z) in
     record {
       bytes = (g, e);
-      within = λ q. exported_within _ _ _ z e (λ i h. number_at_small a.archive.now (96 * a.number + (64 + 8 * i)) 8 (λ j. (c.shared_slice_known-1.given j).fits));
+      within = λ q. exported_within _ _ _ z e (λ i h. number_at_small a.archive.now (96 * a.number + (64 + 8 * i)) 8 (λ j. (c.type_inv.archive j).fits));
     }

@@ -11,7 +11,7 @@ use Rattle.listing.proofs.print_input.Goals as goal
 pub put_listing-requires : goal.put_listing-requires
 put_listing-requires c =
     let a = c.args in
-    omega (arith, listing_at_most (take a.n a.input.now) (take_bytes a.n a.input.now (λ i. (c.shared_slice_known-1.given i).fits)))
+    omega (arith, listing_at_most (take a.n a.input.now) (take_bytes a.n a.input.now (λ i. (c.type_inv.input i).fits)))
 
 pub returns : goal.returns
 returns c whole e =

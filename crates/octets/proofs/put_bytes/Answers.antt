@@ -3,5 +3,5 @@ use Rattle.octets.proofs.Splice.{copied_rest}
 use Rattle.octets.proofs.put_bytes.Goals as goal
 
 pub returns : goal.returns
-returns = λ c.
+returns c =
     copied_rest _ _ _ _ c.requires c.put_words-n.ensures.1 c.put_words-n.ensures.0 c.put_singly.ensures

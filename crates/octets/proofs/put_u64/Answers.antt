@@ -4,5 +4,5 @@ use Rattle.octets.proofs.Splice.{put_halves}
 use Rattle.octets.proofs.put_u64.Goals as goal
 
 pub returns : goal.returns
-returns = λ c.
+returns c =
     put_halves _ _ 4 4 _ (omega arith) c.put_u32.ensures c.put_u32-2.ensures

@@ -4,25 +4,7 @@ use Rattle.octets.proofs.Splice.{copied_none, copied_more}
 use Rattle.octets.proofs.put_words.Goals as goal
 
 pub loop-i-init : goal.loop-i-init
-loop-i-init c = copied_none _ _ _ c.requires (λ j. (c.shared_slice_known-1.given j).fits)
-
-pub overflow_sub-s : goal.overflow_sub-s
-overflow_sub-s c = omega arith
-
-pub overflow_add-at : goal.overflow_add-at
-overflow_add-at c = omega arith
-
-pub u64_at-requires : goal.u64_at-requires
-u64_at-requires c = omega arith
-
-pub put_u64-requires : goal.put_u64-requires
-put_u64-requires c = omega arith
-
-pub overflow_add-i : goal.overflow_add-i
-overflow_add-i c = omega arith
-
-pub loop-i-smaller : goal.loop-i-smaller
-loop-i-smaller c = omega arith
+loop-i-init c = copied_none _ _ _ c.requires (λ j. (c.type_inv.s j).fits)
 
 pub loop-i-preserved : goal.loop-i-preserved
 loop-i-preserved c = copied_more 8 c.loop-i.invariant (omega arith) c.u64_at.ensures c.put_u64.ensures

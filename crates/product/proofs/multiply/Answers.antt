@@ -19,24 +19,3 @@ returns c =
 
 pub loop-i-init : goal.loop-i-init
 loop-i-init c = (omega arith, omega arith, omega arith, refl, refl)
-
-pub offset_bounds-quantities-i : goal.offset_bounds-quantities-i
-offset_bounds-quantities-i c = omega arith
-
-pub bounds-quantities-i : goal.bounds-quantities-i
-bounds-quantities-i c = omega arith
-
-pub times-m-requires : goal.times-m-requires
-times-m-requires c = omega arith
-
-pub overflow_add-p : goal.overflow_add-p
-overflow_add-p c = omega arith
-
-pub overflow_add-i : goal.overflow_add-i
-overflow_add-i c = omega arith
-
-pub loop-i-smaller : goal.loop-i-smaller
-loop-i-smaller c = omega arith
-
-pub shape_of-limbs : goal.shape_of-limbs
-shape_of-limbs c = omega arith

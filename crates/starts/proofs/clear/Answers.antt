@@ -16,26 +16,11 @@ pub loop-i-init : goal.loop-i-init
 unfolding value
 loop-i-init c = (omega arith, refl, refl)
 
-pub offset_bounds-limbs-i : goal.offset_bounds-limbs-i
-unfolding value
-offset_bounds-limbs-i c = omega arith
-
-pub bounds-limbs-i : goal.bounds-limbs-i
-unfolding value
-bounds-limbs-i c = omega arith
-
-pub overflow_add-i : goal.overflow_add-i
-unfolding value
-overflow_add-i c = omega arith
-
 pub loop-i-smaller : goal.loop-i-smaller
-unfolding value
 loop-i-smaller c = simp length-set (omega arith)
 
 pub shape_of-limbs : goal.shape_of-limbs
-unfolding value
 shape_of-limbs c = c.loop-i.invariant.1
 
 pub returns : goal.returns
-unfolding value
 returns c = rw (← take_all c.loop-i.i c.loop-i.limbs c.loop-i-test.false) c.loop-i.invariant.2

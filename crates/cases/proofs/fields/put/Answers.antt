@@ -9,24 +9,12 @@ use Rattle.cases.proofs.fields.put.Goals as goal
 pub loop-i-init : goal.loop-i-init
 loop-i-init c = (omega arith, refl, rw sub-zero, rw (add-zero, sub-zero))
 
-pub overflow_add-fields : goal.overflow_add-fields
-overflow_add-fields c = omega arith
-
-pub bounds-fields-at : goal.bounds-fields-at
-bounds-fields-at c = omega arith
-
-pub overflow_add-i : goal.overflow_add-i
-overflow_add-i c = omega arith
-
-pub loop-i-smaller : goal.loop-i-smaller
-loop-i-smaller c = omega arith
-
 pub loop-i-preserved : goal.loop-i-preserved
-loop-i-preserved = λ c.
+loop-i-preserved c =
     let l = c.loop-i in
     (omega arith, search rules, left_step _ l.i _ c.loop-i-test.true ∙ l.invariant.2, put_step _ _ _ l.i _ c.loop-i-test.true (omega arith) ∙ l.invariant.3)
 
 pub returns : goal.returns
-returns = λ c.
+returns c =
     let l = c.loop-i in
     (sym (left_end _ l.i _ c.loop-i-test.false) ∙ l.invariant.2, sym (put_end _ _ _ l.i _ c.loop-i-test.false) ∙ l.invariant.3)

@@ -7,5 +7,5 @@ pub returns-in_default : goal.returns-in_default
 returns-in_default c = nothing_put _ _ (sym c.number.ensures ∙ c.in_default.is)
 
 pub returns : goal.returns
-returns = λ c.
+returns c =
     number_put _ _ _ (sym c.number.ensures ∙ c.in-Number.is) c.place_of-place.ensures.0 c.place_of-place.ensures.1 c.put.ensures.0 c.put.ensures.1

@@ -9,34 +9,16 @@ use Rattle.cases.proofs.fields.set_fields.Goals as goal
 pub loop-at-init : goal.loop-at-init
 loop-at-init c = (omega arith, refl, refl, refl)
 
-pub slice_bounds-rest-count : goal.slice_bounds-rest-count
-slice_bounds-rest-count c = omega arith
-
-pub slice_bounds-rest-start : goal.slice_bounds-rest-start
-slice_bounds-rest-start c = omega arith
-
-pub slice_bounds-rest-end : goal.slice_bounds-rest-end
-slice_bounds-rest-end c = omega arith
-
 pub slice_bounds-set_field-end : goal.slice_bounds-set_field-end
 slice_bounds-set_field-end c = sym (length-take-le _ _ c.first-end.ensures.1)
 
-pub overflow_add-at : goal.overflow_add-at
-overflow_add-at c = omega arith
-
-pub overflow_add-at-in-loop-at : goal.overflow_add-at-in-loop-at
-overflow_add-at-in-loop-at c = omega arith
-
-pub loop-at-smaller : goal.loop-at-smaller
-loop-at-smaller c = omega arith
-
 pub loop-at-preserved : goal.loop-at-preserved
-loop-at-preserved = λ c.
+loop-at-preserved c =
     let t = c.loop-at-test.true in
     let e = c.first-end.ensures.0 in
     (omega arith, search rules, all_step _ c.loop-at.at c.loop-at.all t e c.set_field-all.ensures.0 ∙ c.loop-at.invariant.2, set_step _ c.loop-at.at _ t e c.set_field-all.ensures.1 ∙ c.loop-at.invariant.3)
 
 pub returns : goal.returns
-returns = λ c.
+returns c =
     let l = c.loop-at in
     (sym (all_end _ l.at l.all c.loop-at-test.false) ∙ l.invariant.2, sym (set_end _ l.at _ c.loop-at-test.false) ∙ l.invariant.3)

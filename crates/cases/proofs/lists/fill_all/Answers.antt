@@ -11,12 +11,6 @@ loop-k-init c = (omega arith, refl, filled_none _)
 pub fill_one-requires : goal.fill_one-requires
 fill_one-requires c = (omega arith, omega arith)
 
-pub overflow_add-k : goal.overflow_add-k
-overflow_add-k c = omega arith
-
-pub loop-k-smaller : goal.loop-k-smaller
-loop-k-smaller c = omega arith
-
 pub loop-k-preserved : goal.loop-k-preserved
 loop-k-preserved c =
     let l = c.loop-k in

@@ -18,11 +18,8 @@ returns-then-digits-eq0 c = value_none _ _ c.if-digits-eq0.true
 pub loop-i-init : goal.loop-i-init
 loop-i-init c = (omega arith, refl)
 
-pub bounds-digits-i : goal.bounds-digits-i
-bounds-digits-i c = omega arith
-
 pub returns-then-base-d : goal.returns-then-base-d
-returns-then-base-d = λ c.
+returns-then-base-d c =
     sym (left _ _ _ c.loop-i.i c.if-digits-eq0.false c.loop-i.invariant.1 ∙ value_stops _ _ _ c.loop-i.i c.loop-i-test.true c.digit-d.ensures c.if-base-d.true)
 
 pub overflow_mul-x : goal.overflow_mul-x
@@ -31,14 +28,8 @@ overflow_mul-x c = record { fits = number_room _ _ c.digit-d.result c.requires c
 pub overflow_add-x : goal.overflow_add-x
 overflow_add-x c = record { fits = digit_room _ _ _ c.requires c.if-base-d.false }
 
-pub overflow_add-i : goal.overflow_add-i
-overflow_add-i c = omega arith
-
-pub loop-i-smaller : goal.loop-i-smaller
-loop-i-smaller c = omega arith
-
 pub loop-i-preserved : goal.loop-i-preserved
-loop-i-preserved = λ c.
+loop-i-preserved c =
     (omega arith, sym (value_step _ _ _ c.loop-i.i c.loop-i-test.true c.digit-d.ensures c.if-base-d.false) ∙ c.loop-i.invariant.1)
 
 pub returns : goal.returns

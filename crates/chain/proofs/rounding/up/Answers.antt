@@ -8,8 +8,5 @@ returns-then-left-eq0 c = omega arith
 pub returns-then-q-eq18446744073709551615 : goal.returns-then-q-eq18446744073709551615
 returns-then-q-eq18446744073709551615 c = omega arith
 
-pub overflow_add-result : goal.overflow_add-result
-overflow_add-result c = omega arith
-
 pub returns : goal.returns
 returns c = omega arith

@@ -9,23 +9,8 @@ use Rattle.limbs.proofs.reading.in_use.Goals as goal
 pub loop-n-init : goal.loop-n-init
 loop-n-init c = (omega arith, ap value (take-length c.args.limbs.now))
 
-pub overflow_sub-n : goal.overflow_sub-n
-overflow_sub-n c = omega arith
-
-pub offset_bounds-limbs-n : goal.offset_bounds-limbs-n
-offset_bounds-limbs-n c = omega arith
-
-pub bounds-limbs-n : goal.bounds-limbs-n
-bounds-limbs-n c = omega arith
-
 pub returns-then-limbs-n-ne0 : goal.returns-then-limbs-n-ne0
 returns-then-limbs-n-ne0 c = (c.loop-n.invariant.0, c.loop-n.invariant.1, λ h. let t = c.if-limbs-n-ne0.true in omega arith)
-
-pub overflow_sub-n-in-loop-n : goal.overflow_sub-n-in-loop-n
-overflow_sub-n-in-loop-n c = omega arith
-
-pub loop-n-smaller : goal.loop-n-smaller
-loop-n-smaller c = omega arith
 
 pub loop-n-preserved : goal.loop-n-preserved
 loop-n-preserved c = (omega arith, use_again _ c.loop-n.n (omega arith) (omega arith) c.if-limbs-n-ne0.false c.loop-n.invariant.1)

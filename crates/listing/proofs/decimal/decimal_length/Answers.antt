@@ -5,16 +5,10 @@ use lib.ListN.{length}
 use Rattle.listing.proofs.DecimalText.{decimal_last, length_more, decimal_some, decimal_at_most}
 use Rattle.listing.proofs.decimal.decimal_length.Goals as goal
 
-pub loop-rest-init : goal.loop-rest-init
-loop-rest-init c = omega arith
-
 pub overflow_add-n : goal.overflow_add-n
 overflow_add-n c =
     let l = c.loop-rest in
     omega (arith, decimal_some l.rest, decimal_at_most 19 c.args.x (omega arith))
-
-pub loop-rest-smaller : goal.loop-rest-smaller
-loop-rest-smaller c = omega arith
 
 pub loop-rest-preserved : goal.loop-rest-preserved
 loop-rest-preserved c = omega (arith, length_more c.loop-rest.rest c.loop-rest-test.true)

@@ -7,29 +7,14 @@ use Rattle.listing.proofs.DecimalText.{length_more, decimal_some}
 use Rattle.listing.proofs.Stores.{digit_stored, first_stored}
 use Rattle.listing.proofs.decimal.put_decimal.Goals as goal
 
-pub overflow_add-end : goal.overflow_add-end
-overflow_add-end c = omega arith
-
 pub overflow_sub-last : goal.overflow_sub-last
 overflow_sub-last c = omega (arith, decimal_some c.args.x)
 
 pub loop-rest-init : goal.loop-rest-init
 loop-rest-init c = let p = decimal_some c.args.x in (omega arith, omega arith, refl, refl)
 
-pub overflow_cast-out : goal.overflow_cast-out
-overflow_cast-out c = omega arith
-
-pub overflow_add-out : goal.overflow_add-out
-overflow_add-out c = omega arith
-
-pub bounds-out-last : goal.bounds-out-last
-bounds-out-last c = omega arith
-
 pub overflow_sub-last-in-loop-rest : goal.overflow_sub-last-in-loop-rest
 overflow_sub-last-in-loop-rest c = let l = c.loop-rest in omega (arith, length_more l.rest c.loop-rest-test.true, decimal_some (l.rest / 10))
-
-pub loop-rest-smaller : goal.loop-rest-smaller
-loop-rest-smaller c = omega arith
 
 pub loop-rest-preserved : goal.loop-rest-preserved
 loop-rest-preserved c =
@@ -37,15 +22,6 @@ loop-rest-preserved c =
     let m = length_more l.rest c.loop-rest-test.true in
     let d = digit_stored l.out c.args.at l.last l.rest c.loop-rest-test.true l.invariant.1 (omega arith) in
     (omega arith, omega (arith, decimal_some (l.rest / 10)), simp length-set l.invariant.2, d ∙ l.invariant.3)
-
-pub overflow_cast-out-2 : goal.overflow_cast-out-2
-overflow_cast-out-2 c = omega arith
-
-pub overflow_add-out-2 : goal.overflow_add-out-2
-overflow_add-out-2 c = omega arith
-
-pub bounds-out-last-2 : goal.bounds-out-last-2
-bounds-out-last-2 c = omega arith
 
 pub shape_of-out : goal.shape_of-out
 shape_of-out c = simp length-set c.loop-rest.invariant.2

@@ -1,6 +1,6 @@
 -- The invariant: the lines from record k on, over the bytes as they are, make the bytes that are asked.
 use mathlib.Core.Path.{refl, sym, ap, ◌∙◌}
-use Prim.Native.Nat.{◌+◌, ◌*◌, ◌≤◌}
+use Prim.Native.Nat.{◌+◌}
 use native.Mathlib.Omega.{arith}
 use Rattle.octets.specs.Bytes.{splice}
 use Rattle.octets.proofs.Splice.{splice_nil, splice_join}
@@ -14,47 +14,22 @@ pub loop-k-init : goal.loop-k-init
 loop-k-init c = (omega arith, refl, refl, refl)
 
 pub overflow_mul-from : goal.overflow_mul-from
-overflow_mul-from c =
-    let inside : let a = c.args in a.width * c.loop-k.k + a.width ≤ a.width * a.n =
-    let a = c.args in record_inside a.width a.n c.loop-k.k c.loop-k-test.true
-    in
-    omega (arith, inside)
+overflow_mul-from c = omega (arith, record_inside c.args.width c.args.n c.loop-k.k c.loop-k-test.true)
 
 pub overflow_add-from : goal.overflow_add-from
-overflow_add-from c =
-    let inside : let a = c.args in a.width * c.loop-k.k + a.width ≤ a.width * a.n =
-    let a = c.args in record_inside a.width a.n c.loop-k.k c.loop-k-test.true
-    in
-    omega (arith, inside)
-
-pub slice_bounds-put_line-count : goal.slice_bounds-put_line-count
-slice_bounds-put_line-count c = omega arith
+overflow_add-from c = omega (arith, record_inside c.args.width c.args.n c.loop-k.k c.loop-k-test.true)
 
 pub slice_bounds-put_line-start : goal.slice_bounds-put_line-start
-slice_bounds-put_line-start c =
-    let inside : let a = c.args in a.width * c.loop-k.k + a.width ≤ a.width * a.n =
-    let a = c.args in record_inside a.width a.n c.loop-k.k c.loop-k-test.true
-    in
-    omega (arith, inside)
+slice_bounds-put_line-start c = omega (arith, record_inside c.args.width c.args.n c.loop-k.k c.loop-k-test.true)
 
 pub slice_bounds-put_line-end : goal.slice_bounds-put_line-end
-slice_bounds-put_line-end c =
-    let inside : let a = c.args in a.width * c.loop-k.k + a.width ≤ a.width * a.n =
-    let a = c.args in record_inside a.width a.n c.loop-k.k c.loop-k-test.true
-    in
-    omega (arith, inside)
+slice_bounds-put_line-end c = omega (arith, record_inside c.args.width c.args.n c.loop-k.k c.loop-k-test.true)
 
 pub put_line-at-requires : goal.put_line-at-requires
 put_line-at-requires c =
     let a = c.args in
     let k = c.loop-k.k in
     (omega (arith, length_record a.width k a.archive.now (omega (arith, record_inside a.width a.n k c.loop-k-test.true))), omega (arith, length_lines_step a.width a.n k a.archive.now c.loop-k-test.true))
-
-pub overflow_add-k : goal.overflow_add-k
-overflow_add-k c = omega arith
-
-pub loop-k-smaller : goal.loop-k-smaller
-loop-k-smaller c = omega arith
 
 pub loop-k-preserved : goal.loop-k-preserved
 loop-k-preserved c =

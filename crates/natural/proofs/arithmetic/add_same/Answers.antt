@@ -12,53 +12,17 @@ pub loop-i-init : goal.loop-i-init
 unfolding value
 loop-i-init c = (start _ _ _ _ (omega arith), omega arith)
 
-pub offset_bounds-limbs-i : goal.offset_bounds-limbs-i
-unfolding value
-offset_bounds-limbs-i c = omega arith
-
-pub bounds-limbs-i : goal.bounds-limbs-i
-unfolding value
-bounds-limbs-i c = omega arith
-
-pub offset_bounds-other-i : goal.offset_bounds-other-i
-unfolding value
-offset_bounds-other-i c = omega arith
-
-pub bounds-other-i : goal.bounds-other-i
-unfolding value
-bounds-other-i c = omega arith
-
-pub add_step-s-requires : goal.add_step-s-requires
-unfolding value
-add_step-s-requires c = omega arith
-
-pub offset_bounds-limbs-i-in-loop-i : goal.offset_bounds-limbs-i-in-loop-i
-unfolding value
-offset_bounds-limbs-i-in-loop-i c = omega arith
-
-pub bounds-limbs-i-in-loop-i : goal.bounds-limbs-i-in-loop-i
-unfolding value
-bounds-limbs-i-in-loop-i c = omega arith
-
-pub overflow_add-i : goal.overflow_add-i
-unfolding value
-overflow_add-i c = omega arith
-
 pub loop-i-smaller : goal.loop-i-smaller
-unfolding value
 loop-i-smaller c = simp length-set (omega arith)
 
 pub loop-i-preserved : goal.loop-i-preserved
-unfolding value
-loop-i-preserved = λ c.
+loop-i-preserved c =
     (carried_again c.loop-i.carry _ _ _ _ c.loop-i.invariant.0 (omega arith) (c.add_step-s.ensures.0 ∙ omega arith) (value_next c.args.other.now c.loop-i.i (omega arith)), c.add_step-s.ensures.1)
 
 pub shape_of-limbs : goal.shape_of-limbs
-unfolding value
 shape_of-limbs c = c.loop-i.invariant.0.long
 
 pub returns : goal.returns
-unfolding value
-returns = λ c.
+returns c =
     let e = ap value (take_all c.loop-i.i c.args.other.now (omega arith)) in
     (omega (arith, carried_end c.loop-i.carry c.loop-i.invariant.0 c.loop-i-test.false), c.loop-i.invariant.1)

@@ -7,26 +7,8 @@ use Rattle.natural.proofs.arithmetic.shift_down.Goals as goal
 pub loop-i-init : goal.loop-i-init
 loop-i-init c = divided_start _ _ (pow_pos c.args.s)
 
-pub overflow_sub-i : goal.overflow_sub-i
-overflow_sub-i c = omega arith
-
-pub offset_bounds-limbs-i : goal.offset_bounds-limbs-i
-offset_bounds-limbs-i c = omega arith
-
-pub bounds-limbs-i : goal.bounds-limbs-i
-bounds-limbs-i c = omega arith
-
 pub shift_step-q-requires : goal.shift_step-q-requires
 shift_step-q-requires c = (omega arith, c.loop-i.invariant.small)
-
-pub offset_bounds-limbs-i-in-loop-i : goal.offset_bounds-limbs-i-in-loop-i
-offset_bounds-limbs-i-in-loop-i c = omega arith
-
-pub bounds-limbs-i-in-loop-i : goal.bounds-limbs-i-in-loop-i
-bounds-limbs-i-in-loop-i c = omega arith
-
-pub loop-i-smaller : goal.loop-i-smaller
-loop-i-smaller c = omega arith
 
 pub loop-i-preserved : goal.loop-i-preserved
 loop-i-preserved c = divided_again _ _ _ c.loop-i.invariant (omega arith) c.shift_step-q.ensures

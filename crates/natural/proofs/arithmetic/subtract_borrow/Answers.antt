@@ -13,24 +13,6 @@ shape_of-limbs-then-left-eq0 c = c.loop-i.invariant.0.long
 pub returns-then-left-eq0 : goal.returns-then-left-eq0
 returns-then-left-eq0 c = (borrowed_stopped c.loop-i.left c.loop-i.invariant.0 c.if-left-eq0.true, omega arith)
 
-pub offset_bounds-limbs-i : goal.offset_bounds-limbs-i
-offset_bounds-limbs-i c = omega arith
-
-pub bounds-limbs-i : goal.bounds-limbs-i
-bounds-limbs-i c = omega arith
-
-pub subtract_step-s-requires : goal.subtract_step-s-requires
-subtract_step-s-requires c = omega arith
-
-pub offset_bounds-limbs-i-in-loop-i : goal.offset_bounds-limbs-i-in-loop-i
-offset_bounds-limbs-i-in-loop-i c = omega arith
-
-pub bounds-limbs-i-in-loop-i : goal.bounds-limbs-i-in-loop-i
-bounds-limbs-i-in-loop-i c = omega arith
-
-pub overflow_add-i : goal.overflow_add-i
-overflow_add-i c = omega arith
-
 pub loop-i-smaller : goal.loop-i-smaller
 loop-i-smaller c = simp length-set (omega arith)
 

@@ -8,21 +8,6 @@ use Rattle.natural.proofs.arithmetic.times_add.Goals as goal
 pub loop-i-init : goal.loop-i-init
 loop-i-init c = start _ _ _ _ (omega arith)
 
-pub offset_bounds-limbs-i : goal.offset_bounds-limbs-i
-offset_bounds-limbs-i c = omega arith
-
-pub bounds-limbs-i : goal.bounds-limbs-i
-bounds-limbs-i c = omega arith
-
-pub offset_bounds-limbs-i-in-loop-i : goal.offset_bounds-limbs-i-in-loop-i
-offset_bounds-limbs-i-in-loop-i c = omega arith
-
-pub bounds-limbs-i-in-loop-i : goal.bounds-limbs-i-in-loop-i
-bounds-limbs-i-in-loop-i c = omega arith
-
-pub overflow_add-i : goal.overflow_add-i
-overflow_add-i c = omega arith
-
 pub loop-i-smaller : goal.loop-i-smaller
 loop-i-smaller c = simp length-set (omega arith)
 

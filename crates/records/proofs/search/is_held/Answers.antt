@@ -12,7 +12,7 @@ pub returns-then-u64_at-dossier : goal.returns-then-u64_at-dossier
 returns-then-u64_at-dossier c =
     let a = c.args in
     let l = length_first_lines record_size a.n a.archive.now in
-    let looked_at = same_numbers record_size c.args.n c.loop-k.k c.args.archive.now c.args.case.now (λ i. (c.shared_slice_known-1.given i).fits) (λ i. (c.shared_slice_known-2-1.given i).fits) (omega arith) c.loop-k-test.true c.requires.0 c.requires.1 c.u32_at.ensures c.u32_at-head.ensures c.u64_at.ensures c.u64_at-dossier.ensures in
+    let looked_at = same_numbers record_size c.args.n c.loop-k.k c.args.archive.now c.args.case.now (λ i. (c.type_inv.archive i).fits) (λ i. (c.type_inv.case i).fits) (omega arith) c.loop-k-test.true c.requires.0 c.requires.1 c.u32_at.ensures c.u32_at-head.ensures c.u64_at.ensures c.u64_at-dossier.ensures in
     sym (held_at _ _ c.loop-k.k (omega (arith, c.loop-k-test.true)) (sym looked_at ∙ c.if-u64_at-dossier.true))
 
 pub returns : goal.returns
@@ -21,34 +21,10 @@ returns c =
     let l = length_first_lines record_size a.n a.archive.now in
     sym (held_nowhere _ _ (λ j h. c.loop-k.invariant.1 j (omega (arith, c.loop-k-test.false))))
 
-pub u32_at-head-requires : goal.u32_at-head-requires
-u32_at-head-requires c = omega arith
-
-pub u64_at-dossier-requires : goal.u64_at-dossier-requires
-u64_at-dossier-requires c = omega arith
-
 pub loop-k-init : goal.loop-k-init
 loop-k-init c = (omega arith, below_none _)
 
-pub overflow_mul-at : goal.overflow_mul-at
-overflow_mul-at c = omega arith
-
-pub overflow_add-at : goal.overflow_add-at
-overflow_add-at c = omega arith
-
-pub u64_at-requires : goal.u64_at-requires
-u64_at-requires c = omega arith
-
-pub u32_at-requires : goal.u32_at-requires
-u32_at-requires c = omega arith
-
-pub overflow_add-k : goal.overflow_add-k
-overflow_add-k c = omega arith
-
-pub loop-k-smaller : goal.loop-k-smaller
-loop-k-smaller c = omega arith
-
 pub loop-k-preserved : goal.loop-k-preserved
 loop-k-preserved c =
-    let looked_at = same_numbers record_size c.args.n c.loop-k.k c.args.archive.now c.args.case.now (λ i. (c.shared_slice_known-1.given i).fits) (λ i. (c.shared_slice_known-2-1.given i).fits) (omega arith) c.loop-k-test.true c.requires.0 c.requires.1 c.u32_at.ensures c.u32_at-head.ensures c.u64_at.ensures c.u64_at-dossier.ensures in
+    let looked_at = same_numbers record_size c.args.n c.loop-k.k c.args.archive.now c.args.case.now (λ i. (c.type_inv.archive i).fits) (λ i. (c.type_inv.case i).fits) (omega arith) c.loop-k-test.true c.requires.0 c.requires.1 c.u32_at.ensures c.u32_at-head.ensures c.u64_at.ensures c.u64_at-dossier.ensures in
     (omega arith, below_more _ _ c.loop-k.invariant.1 (sym looked_at ∙ c.if-u64_at-dossier.false))

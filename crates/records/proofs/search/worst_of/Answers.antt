@@ -47,17 +47,8 @@ loop-x-smaller c =
 pub loop-x-preserved : goal.loop-x-preserved
 loop-x-preserved c = let l = c.loop-x-2 in (l.invariant.1, omega arith, l.invariant.3.1 (omega (arith, c.loop-x-2-test.false)))
 
-pub overflow_mul-place : goal.overflow_mul-place
-overflow_mul-place c = omega arith
-
-pub overflow_add-place : goal.overflow_add-place
-overflow_add-place c = omega arith
-
 pub u64_at-top-requires : goal.u64_at-top-requires
 u64_at-top-requires c = let a = c.args in let o = c.if-n-eq0.false in omega (arith, record_inside a.width a.n 0 (omega arith))
-
-pub overflow_add-k : goal.overflow_add-k
-overflow_add-k c = omega arith
 
 pub overflow_mul-width : goal.overflow_mul-width
 overflow_mul-width c = omega (arith, (inside c.args.width c.args.n c.loop-x-2.k c.loop-x-2.invariant.1 c.if-k-n.false).1)
@@ -67,6 +58,3 @@ overflow_add-width c = omega (arith, (inside c.args.width c.args.n c.loop-x-2.k 
 
 pub u64_at-x-requires : goal.u64_at-x-requires
 u64_at-x-requires c = omega (arith, (inside c.args.width c.args.n c.loop-x-2.k c.loop-x-2.invariant.1 c.if-k-n.false).1)
-
-pub loop-x-2-smaller : goal.loop-x-2-smaller
-loop-x-2-smaller c = omega arith

@@ -15,9 +15,9 @@ pub sum_over-requires : goal.sum_over-requires
 sum_over-requires c = faults_numbers _ _ _ _ c.faults_of-faults.ensures c.if-faults.false
 
 pub returns-then-sum_over : goal.returns-then-sum_over
-returns-then-sum_over = λ c.
+returns-then-sum_over c =
     rw (refused_by_faults _ _ _ _ c.faults_of-faults.ensures, c.if-faults.false, c.if-faults-2.false, c.if-faults-3.false, ← c.sum_over.ensures, c.if-sum_over.true)
 
 pub returns : goal.returns
-returns = λ c.
+returns c =
     rw (refused_by_faults _ _ _ _ c.faults_of-faults.ensures, c.if-faults.false, c.if-faults-2.false, c.if-faults-3.false, ← c.sum_over.ensures, c.if-sum_over.false)
