@@ -1,5 +1,6 @@
 -- Laws that this crate's proofs and the crates above cite, and theorems on refusals and cases.
 pub mod Refusals
+pub mod Numbers
 pub mod KindTable
 pub mod UsageTable
 pub mod Six

@@ -9,6 +9,7 @@ ghost use Rattle.kinds.specs.Patterns.{bounds_of, limit_patterns, limits_of};
 use polymers::{Usage, usage_of};
 
 pub mod polymers;
+pub mod refusal;
 
 pub fn kind_unknown(kind: u8) -> bool
     ensures { result ≡ kind_unknown kind }
