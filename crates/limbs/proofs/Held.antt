@@ -1,9 +1,9 @@
 -- Laws on what limbs hold.
---   use_again, use_part                     `in_use`: the limbs from i on are 0
+--   value_above, use_part                   `in_use`: the limbs from j on are 0
 --   zero_unused                             `is_zero`
 --   zero_of, some_of, flag_zero, flag_some  what a caller of `is_zero` learns
 --   number_none, number_one, number_more    `to_u64`
-use mathlib.Core.Path.{◌≡◌, sym, ap, ◌∙◌}
+use mathlib.Core.Path.{◌≡◌, refl, sym, ap, ◌∙◌}
 use mathlib.Core.Bool.{true, false}
 use mathlib.Core.List.{List, [], ◌∷◌}
 use Prim.Native.Nat.{ℕ, zero, suc, ◌+◌, ◌-◌, ◌*◌, ◌^◌, ◌≤◌, ◌<◌, min}
@@ -11,20 +11,24 @@ use native.Mathlib.Nat.{mul-pos}
 use native.Mathlib.Omega.{arith}
 use borrow.Author.Tests.{eq-eqb, ne_eqb, eqb-true, eqb-false}
 use lib.Dec.{eqb}
-use lib.ListN.{length, take, drop, get_or}
+use lib.ListN.{length, take, drop, get_or, length-drop}
 use lib.Pow.{pow_pos}
-use lib.Seq.{take_all, take-take, get_or-take, length-take-le}
+use lib.Seq.{take_all, take-take, get_or-take, get_or-drop, length-take-le}
 use Rattle.limbs.specs.Value.{value}
-use Rattle.limbs.proofs.Value.{value_take}
+use Rattle.limbs.proofs.Value.{value_take, value_split}
 
--- limb i - 1 is 0 too
-pub use_again : (l : List ℕ) (i : ℕ) → 0 < i → i ≤ length l → get_or l (i - 1) 0 ≡ 0 → value (take i l) ≡ value l → value (take (i - 1) l) ≡ value l
-use_again l zero p h z inv = omega arith
-use_again l (suc j) p h z inv =
-    let e : suc j - 1 ≡ j = omega arith in
-    let g : get_or l j 0 * 2 ^ (32 * j) ≡ 0 * 2 ^ (32 * j) = ap (λ (n : ℕ). n * 2 ^ (32 * j)) (rw e at z) in
-    let v : value (take (suc j) l) ≡ value (take j l) + get_or l j 0 * 2 ^ (32 * j) = value_take l j h in
-    rw e (omega arith)
+-- limbs that are all 0
+value_zero : (l : List ℕ) → ((k : ℕ) → k < length l → get_or l k 0 ≡ 0) → value l ≡ 0
+unfolding value
+value_zero [] z = refl
+value_zero (x ∷ l) z = omega (arith, z 0 (omega arith), value_zero l (λ k h. z (suc k) (omega arith)))
+
+-- the limbs from j on are 0
+pub value_above : (l : List ℕ) (j : ℕ) → j ≤ length l → ((k : ℕ) → j ≤ k → k < length l → get_or l k 0 ≡ 0) → value (take j l) ≡ value l
+value_above l j h z =
+    let d : value (drop j l) ≡ 0 = value_zero (drop j l) (λ k g. get_or-drop j l k 0 ∙ z (j + k) (omega arith) (omega (arith, length-drop j l))) in
+    let w : value (drop j l) * 2 ^ (32 * j) ≡ 0 * 2 ^ (32 * j) = ap (λ (n : ℕ). n * 2 ^ (32 * j)) d in
+    omega (arith, value_split l j h)
 
 -- the number is 0 where no limb is in use
 pub zero_unused : (l : List ℕ) (r : ℕ) → (r ≤ length l) × (value (take r l) ≡ value l) × (0 < r → 0 < get_or l (r - 1) 0) → eqb r 0 ≡ eqb (value l) 0

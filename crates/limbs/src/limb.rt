@@ -1,24 +1,17 @@
 // Single limbs: a limb widened, the two limbs of a u64, and the steps from limb to limb that arithmetic repeats.
 ghost use Rattle.std.specs.Prelude.{◌≡◌, ◌+◌, ◌*◌, ◌/◌, ◌%◌, ◌^◌, ◌≤◌, ◌<◌};
 
-// A limb of a result, and what is carried to the next limb worked on: a carry, a borrow or a remainder.
+// A limb of a result, and what is carried to the next limb worked on: a carry, a borrow or a remainder, of one limb or of two.
 #[derive(Clone, Copy)]
-pub struct Digit {
+pub struct Digit<C> {
     pub limb: u32,
-    pub carry: u32,
-}
-
-// The same where a carry takes two limbs.
-#[derive(Clone, Copy)]
-pub struct Column {
-    pub limb: u32,
-    pub carry: u64,
+    pub carry: C,
 }
 
 pub fn wide(x: u32) -> u64
     ensures { (result ≡ x) × (result < 4294967296) }
 {
-    x as u64
+    u64::from(x)
 }
 
 pub fn low(t: u64) -> u32
@@ -40,19 +33,19 @@ pub fn power(s: u32) -> u32
     1u32 << s
 }
 
-pub fn multiply_step(x: u32, m: u64, carry: u64) -> Column
+pub fn multiply_step(x: u32, m: u64, carry: u64) -> Digit<u64>
     ensures { result.limb + 4294967296 * result.carry ≡ x * m + carry }
 {
     let w = wide(x);
     let upper = w * (m / 4294967296);
     let sum = w * (m % 4294967296) + carry % 4294967296;
-    Column {
+    Digit {
         limb: low(sum),
         carry: upper + carry / 4294967296 + sum / 4294967296,
     }
 }
 
-pub fn add_step(x: u32, y: u32, carry: u32) -> Digit
+pub fn add_step(x: u32, y: u32, carry: u32) -> Digit<u32>
     requires { carry ≤ 1 }
     ensures { (result.limb + 4294967296 * result.carry ≡ x + y + carry) × (result.carry ≤ 1) }
 {
@@ -63,7 +56,7 @@ pub fn add_step(x: u32, y: u32, carry: u32) -> Digit
     }
 }
 
-pub fn subtract_step(x: u32, y: u32, borrow: u32) -> Digit
+pub fn subtract_step(x: u32, y: u32, borrow: u32) -> Digit<u32>
     requires { borrow ≤ 1 }
     ensures { (result.limb + y + borrow ≡ x + 4294967296 * result.carry) × (result.carry ≤ 1) }
 {
@@ -74,7 +67,7 @@ pub fn subtract_step(x: u32, y: u32, borrow: u32) -> Digit
     }
 }
 
-pub fn divide_step(r: u32, x: u32, d: u32) -> Digit
+pub fn divide_step(r: u32, x: u32, d: u32) -> Digit<u32>
     requires { r < d }
     ensures { (r * 4294967296 + x ≡ result.limb * d + result.carry) × (result.carry < d) }
 {
@@ -86,7 +79,7 @@ pub fn divide_step(r: u32, x: u32, d: u32) -> Digit
     }
 }
 
-pub fn shift_step(r: u32, x: u32, s: u32) -> Digit
+pub fn shift_step(r: u32, x: u32, s: u32) -> Digit<u32>
     requires { (s < 32) × (r < 2 ^ s) }
     ensures { (r * 4294967296 + x ≡ result.limb * 2 ^ s + result.carry) × (result.carry < 2 ^ s) }
 {

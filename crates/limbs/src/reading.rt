@@ -8,14 +8,10 @@ use crate::limb::wide;
 pub fn in_use(limbs: &[u32]) -> usize
     ensures { (result ≤ length limbs.now) × (value (take result limbs.now) ≡ value limbs.now) × (0 < result → 0 < get_or limbs.now (result - 1) 0) }
 {
-    let mut n = limbs.len();
-    while 0 < n {
-        if limbs[n - 1] != 0 {
-            return n;
-        }
-        n -= 1;
+    match limbs.iter().rposition(|&x| x != 0) {
+        Some(i) => i + 1,
+        None => 0,
     }
-    n
 }
 
 // Whether the number is 0 (GMP's mpn_zero_p).
@@ -29,14 +25,10 @@ pub fn is_zero(limbs: &[u32]) -> bool
 pub fn to_u64(limbs: &[u32]) -> u64
     ensures { result ≡ min 18446744073709551615 (value limbs.now) }
 {
-    if limbs.len() == 0 {
-        return 0;
+    match limbs {
+        [] => 0,
+        [x] => wide(*x),
+        [x, y, above @ ..] if is_zero(above) => wide(*x) + wide(*y) * 4294967296,
+        _ => u64::MAX,
     }
-    if limbs.len() == 1 {
-        return wide(limbs[0]);
-    }
-    if is_zero(&limbs[2..]) {
-        return wide(limbs[0]) + wide(limbs[1]) * 4294967296;
-    }
-    18446744073709551615
 }

@@ -1,19 +1,24 @@
--- The loop's invariant: the limbs from n on are 0.
-use mathlib.Core.Path.{ap}
+-- Above the limb that is found all are 0; where none is found, all are.
+use mathlib.Core.Path.{◌≡◌}
+use Prim.Native.Nat.{ℕ, ◌+◌, ◌-◌, ◌≤◌, ◌<◌}
 use native.Mathlib.Omega.{arith}
-use lib.Seq.{take-length}
-use Rattle.limbs.specs.Value.{value}
-use Rattle.limbs.proofs.Held.{use_again}
+use lib.ListN.{length, get_or}
+use Rattle.std.proofs.Common.{rules}
+use Rattle.limbs.proofs.Held.{value_above}
 use Rattle.limbs.proofs.reading.in_use.Goals as goal
 
-pub loop-n-init : goal.loop-n-init
-loop-n-init c = (omega arith, ap value (take-length c.args.limbs.now))
+pub returns-in-Some : goal.returns-in-Some
+returns-in-Some c =
+    let l = c.args.limbs.now in
+    let i = c.in-Some.i in
+    let b : i < length l = search rules in
+    let n : get_or l i 0 ≡ 0 → ⊥ = search rules in
+    let z : (k : ℕ) → i + 1 ≤ k → k < length l → get_or l k 0 ≡ 0 = search rules in
+    let e : i + 1 - 1 ≡ i = omega arith in
+    (omega arith, value_above l (i + 1) (omega arith) z, λ h. rw e (omega arith))
 
-pub returns-then-limbs-n-ne0 : goal.returns-then-limbs-n-ne0
-returns-then-limbs-n-ne0 c = (c.loop-n.invariant.0, c.loop-n.invariant.1, λ h. let t = c.if-limbs-n-ne0.true in omega arith)
-
-pub loop-n-preserved : goal.loop-n-preserved
-loop-n-preserved c = (omega arith, use_again _ c.loop-n.n (omega arith) (omega arith) c.if-limbs-n-ne0.false c.loop-n.invariant.1)
-
-pub returns : goal.returns
-returns c = (c.loop-n.invariant.0, c.loop-n.invariant.1, λ h. let t = c.loop-n-test.false in omega arith)
+pub returns-in-None : goal.returns-in-None
+returns-in-None c =
+    let l = c.args.limbs.now in
+    let z : (k : ℕ) → k < length l → get_or l k 0 ≡ 0 = search rules in
+    (omega arith, value_above l 0 (omega arith) (λ k g. z k), λ h. omega arith)
