@@ -1,18 +1,20 @@
 -- Laws on the loops from the lowest limb up; l is the list so far, l₀ the list at entry.
---   Worked: Carried, Borrowed              the limbs below i are worked on, with a carry into limb i, or a borrow from it
---   start, carried_again, borrowed_again   before the loop, and after a turn that adds y to limb i or takes it away
---   carried_end, borrowed_end, -stopped    at the end, and where nothing is borrowed any more
---   carried_one                            what is carried out where 1 was added
---   above, weight_above                    a call worked on the limbs from n on
---   add_parts, subtract_parts              a call worked on the limbs below n, and another on those from n on
+--   Worked: Carried, Borrowed         the limbs below i are worked on, with a carry into limb i, or a borrow from it
+--   start, carried_again, -end        `times_add`: before the loop, after a turn, and at the end
+--   Columns                           a number is added to the limbs below i, or taken away
+--   columns_start, -again             `columns`: before the loops, and after a turn
+--   columns_through, -end, -stopped   where `other` has no limb more, at the end, and where nothing is carried any more
+--   above, weight_above               a call worked on the limbs from n on
 use mathlib.Core.Path.{◌≡◌, refl, sym, ap, ◌∙◌}
+use mathlib.Core.Bool.{Bool, true, false, cond}
 use mathlib.Core.List.{List, ◌++◌}
-use Prim.Native.Nat.{ℕ, zero, suc, ◌+◌, ◌-◌, ◌*◌, ◌^◌, ◌≤◌, ◌<◌}
+use Prim.Native.Nat.{ℕ, ◌+◌, ◌-◌, ◌*◌, ◌^◌, ◌≤◌, ◌<◌}
 use native.Mathlib.Omega.{arith}
 use lib.ListN.{length, take, drop, get_or, set, length-drop, length-set}
-use lib.Seq.{get_or-drop, drop-drop, drop-set-lt, take_all, take-length, length_front, length-take-le}
+use lib.Seq.{get_or-drop, drop-drop, drop-set-lt, take_all}
 use Rattle.limbs.specs.Value.{value}
-use Rattle.limbs.proofs.Value.{weight_next, weight_add, value_next, value_store, value_same, value_split, value_front, value_back, part_from, value_below}
+use Rattle.natural.specs.Carries.{Carries}
+use Rattle.limbs.proofs.Value.{weight_next, weight_add, value_next, value_store, value_same, value_split, value_back, part_from}
 
 -- the limbs below i are worked on, those from i on are as at entry: with s the former are m times those at entry, and t
 pub record Worked (l l₀ : List ℕ) (m i s t : ℕ) : Type 0 where
@@ -52,7 +54,7 @@ pub carried_again : {l l₀ : List ℕ} {m i t : ℕ} (c x q y t' : ℕ) → Car
     → Carried (set l i x) l₀ m (i + 1) q t'
 carried_again {i = i} c x q y t' v h e f = again x (4294967296 * q) (y + c) (q * 2 ^ (32 * (i + 1))) t' v h e (omega (arith, weight_next q i))
 
-pub borrowed_again : {l l₀ : List ℕ} {i s : ℕ} (b x q y s' : ℕ) → Borrowed l l₀ i b s → i < length l → x + y + b ≡ get_or l i 0 + 4294967296 * q → s' ≡ s + y * 2 ^ (32 * i)
+borrowed_again : {l l₀ : List ℕ} {i s : ℕ} (b x q y s' : ℕ) → Borrowed l l₀ i b s → i < length l → x + y + b ≡ get_or l i 0 + 4294967296 * q → s' ≡ s + y * 2 ^ (32 * i)
     → Borrowed (set l i x) l₀ (i + 1) q s'
 borrowed_again {i = i} b x q y s' v h e f = again x (y + b) (4294967296 * q) s' (q * 2 ^ (32 * (i + 1))) v h (omega arith) (omega (arith, weight_next q i))
 
@@ -65,22 +67,39 @@ whole {l} {l₀} {m} {i} {s} {t} v h =
 pub carried_end : {l l₀ : List ℕ} {m i t : ℕ} (c : ℕ) → Carried l l₀ m i c t → length l ≤ i → value l + c * 2 ^ (32 * length l₀) ≡ value l₀ * m + t
 carried_end {l} {l₀} c v h = let e = whole v h in rw e.0 at e.1
 
-pub borrowed_end : {l l₀ : List ℕ} {i s : ℕ} (b : ℕ) → Borrowed l l₀ i b s → length l ≤ i → value l + s ≡ value l₀ + b * 2 ^ (32 * length l₀)
+borrowed_end : {l l₀ : List ℕ} {i s : ℕ} (b : ℕ) → Borrowed l l₀ i b s → length l ≤ i → value l + s ≡ value l₀ + b * 2 ^ (32 * length l₀)
 borrowed_end b v h = let e = whole v h in let f = rw e.0 at e.1 in omega arith
 
-pub borrowed_stopped : {l l₀ : List ℕ} {i s : ℕ} (b : ℕ) → Borrowed l l₀ i b s → b ≡ 0 → value l + s ≡ value l₀ + 0 * 2 ^ (32 * length l₀)
-borrowed_stopped {l} {l₀} {i} b v z =
-    let f : b * 2 ^ (32 * i) ≡ 0 * 2 ^ (32 * i) = ap (λ (n : ℕ). n * 2 ^ (32 * i)) z in
-    omega (arith, value_same l l₀ i v.within v.long v.rest)
+-- a number t is added to the limbs below i, with a carry c into limb i, or it is taken away from them, with a borrow
+abbrev pub Columns : Bool → List ℕ → List ℕ → ℕ → ℕ → ℕ → Type 0
+Columns away l l₀ i c t = Worked l l₀ 1 i (cond away t (c * 2 ^ (32 * i))) (cond away (c * 2 ^ (32 * i)) t)
 
--- 1 is carried out at the most, where 1 was added
-pub carried_one : (l : List ℕ) (v r : ℕ) → ((i : ℕ) → get_or l i 0 < 4294967296) → v + r * 2 ^ (32 * length l) ≡ value l * 1 + 1 → r ≤ 1
-carried_one l v r h e = go r (2 ^ (32 * length l)) e (rw (take-length l) at (value_below l (length l) h))
+pub columns_start : (away : Bool) (l : List ℕ) → Columns away l l 0 0 0
+columns_start false l = start l 1 0 0 refl
+columns_start true l = start l 1 0 0 refl
+
+pub columns_again : (away : Bool) {l l₀ : List ℕ} {i : ℕ} (c t x q y t' : ℕ) → Columns away l l₀ i c t → i < length l → Carries away 4294967296 (get_or l i 0) x y c q → t' ≡ t + y * 2 ^ (32 * i)
+    → Columns away (set l i x) l₀ (i + 1) q t'
+columns_again false c t x q y t' v h e f = carried_again c x q y t' v h (e ∙ omega arith) f
+columns_again true c t x q y t' v h e f = borrowed_again c x q y t' v h e f
+
+pub columns_end : (away : Bool) {l l₀ : List ℕ} {i : ℕ} (c t : ℕ) → Columns away l l₀ i c t → length l ≤ i → Carries away (2 ^ (32 * length l₀)) (value l₀) (value l) t 0 c
+columns_end false c t v h = omega (arith, carried_end c v h)
+columns_end true c t v h = omega (arith, borrowed_end c v h)
+
+-- all limbs of o are worked on
+pub columns_through : (away : Bool) (l l₀ o : List ℕ) (i c : ℕ) → Columns away l l₀ i c (value (take i o)) → i ≡ length o → Columns away l l₀ (length o) c (value o)
+columns_through away l l₀ o i c v e =
+    let f : value (take i o) ≡ value o = ap value (take_all i o (omega arith)) in
+    rw (← e, ← f) v
+
+-- nothing is carried any more
+pub columns_stopped : (away : Bool) {l l₀ : List ℕ} {i : ℕ} (c t : ℕ) → Columns away l l₀ i c t → c ≡ 0 → Carries away (2 ^ (32 * length l₀)) (value l₀) (value l) t 0 0
+columns_stopped away {l} {l₀} {i} c t v z = go away v (ap (λ (n : ℕ). n * 2 ^ (32 * i)) z) (value_same l l₀ i v.within v.long v.rest)
   where
-    go : (r W : ℕ) → v + r * W ≡ value l * 1 + 1 → value l < W → r ≤ 1
-    go zero W e h = omega arith
-    go (suc zero) W e h = omega arith
-    go (suc (suc r)) W e h = omega arith
+    go : (away : Bool) → Columns away l l₀ i c t → c * 2 ^ (32 * i) ≡ 0 * 2 ^ (32 * i) → value l + value (take i l₀) ≡ value l₀ + value (take i l) → Carries away (2 ^ (32 * length l₀)) (value l₀) (value l) t 0 0
+    go false v f e = omega arith
+    go true v f e = omega arith
 
 -- a call changed the part of a slice from n on to f; s and t as its contract has them
 pub above : (l f : List ℕ) (n s t : ℕ) → n ≤ length l → value f + s ≡ value (take (length l - n) (drop n l)) + t
@@ -95,28 +114,3 @@ weight_above l n r h =
     let e : length (drop n l) + n ≡ length l = omega (arith, length-drop n l) in
     let w : r * 2 ^ (32 * (length (drop n l) + n)) ≡ r * (2 ^ (32 * length (drop n l)) * 2 ^ (32 * n)) = ap (λ (k : ℕ). r * k) (weight_add (length (drop n l)) n) in
     rw (part_from l n) (omega (arith, ap (λ (k : ℕ). r * 2 ^ (32 * k)) e))
-
--- a first call changed the limbs below n to e, and a second one those from n on to f
-parts : (l e f : List ℕ) (n s t u v : ℕ) → n ≤ length l → length e ≡ length (take n l) → value e + s ≡ value (take n l) + t
-    → value f + u ≡ value (take (length (e ++ drop n l) - n) (drop n (e ++ drop n l))) + v
-    → value (take n (e ++ drop n l) ++ (f ++ drop (length (e ++ drop n l) - n) (drop n (e ++ drop n l)))) + (s + u * 2 ^ (32 * n)) ≡ value l + (t + v * 2 ^ (32 * n))
-parts l e f n s t u v h len below up =
-    let x : n ≤ length (e ++ drop n l) = rw (length_front l e n len) h in
-    omega (arith, above (e ++ drop n l) f n u v x up, (value_front l e n h len).1)
-
--- the weights in what `parts` gives
-weights : (l e : List ℕ) (n c r : ℕ) → n ≤ length l → length e ≡ length (take n l)
-    → (c * 2 ^ (32 * length (take n l)) ≡ c * 2 ^ (32 * n)) × (r * 2 ^ (32 * length (take (length (e ++ drop n l) - n) (drop n (e ++ drop n l)))) * 2 ^ (32 * n) ≡ r * 2 ^ (32 * length l))
-weights l e n c r h len =
-    let x : length (e ++ drop n l) ≡ length l = length_front l e n len in
-    (ap (λ (k : ℕ). c * 2 ^ (32 * k)) (length-take-le n l h), weight_above (e ++ drop n l) n r (rw x h) ∙ ap (λ (k : ℕ). r * 2 ^ (32 * k)) x)
-
-pub add_parts : (l e f o : List ℕ) (n c r : ℕ) → n ≤ length l → length e ≡ length (take n l) → value e + c * 2 ^ (32 * length (take n l)) ≡ value (take n l) + value o
-    → value f + r * 2 ^ (32 * length (take (length (e ++ drop n l) - n) (drop n (e ++ drop n l)))) ≡ value (take (length (e ++ drop n l) - n) (drop n (e ++ drop n l))) + c
-    → value (take n (e ++ drop n l) ++ (f ++ drop (length (e ++ drop n l) - n) (drop n (e ++ drop n l)))) + r * 2 ^ (32 * length l) ≡ value l + value o
-add_parts l e f o n c r h len below up = omega (arith, weights l e n c r h len, parts l e f n _ _ _ _ h len below up)
-
-pub subtract_parts : (l e f o : List ℕ) (n b r : ℕ) → n ≤ length l → length e ≡ length (take n l) → value e + value o ≡ value (take n l) + b * 2 ^ (32 * length (take n l))
-    → value f + b ≡ value (take (length (e ++ drop n l) - n) (drop n (e ++ drop n l))) + r * 2 ^ (32 * length (take (length (e ++ drop n l) - n) (drop n (e ++ drop n l))))
-    → value (take n (e ++ drop n l) ++ (f ++ drop (length (e ++ drop n l) - n) (drop n (e ++ drop n l)))) + value o ≡ value l + r * 2 ^ (32 * length l)
-subtract_parts l e f o n b r h len below up = omega (arith, weights l e n b r h len, parts l e f n _ _ _ _ h len below up)

@@ -1,2 +1,3 @@
 -- What a reader of this crate must believe: definitions only. Theorems about them stand in proofs/.
 pub mod Ceiling
+pub mod Carries

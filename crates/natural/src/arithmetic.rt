@@ -1,49 +1,73 @@
 // Arithmetic in place: a number of limbs times, plus, less or over a small or another one.
-ghost use Rattle.std.specs.Prelude.{◌≡◌, ◌+◌, ◌*◌, ◌^◌, ◌≤◌, ◌<◌, length};
+ghost use Rattle.std.specs.Prelude.{◌≡◌, ℕ, ◌+◌, ◌*◌, ◌^◌, ◌≤◌, ◌<◌, Bool, true, false, length};
 ghost use Rattle.limbs.specs.Value.{value};
+ghost use Rattle.natural.specs.Carries.{Carries};
 
-use limbs::limb::{add_step, divide_step, multiply_step, shift_step, subtract_step};
+use limbs::limb::{Digit, add_step, divide_step, multiply_step, shift_step, subtract_step};
 
 // Multiplies by m and adds `more`; returns what is carried out of the top limb (GMP's mpn_mul_1).
 pub fn times_add(limbs: &mut [u32], m: u64, more: u64) -> u64
     ensures { value limbs.new + result * 2 ^ (32 * length limbs.old) ≡ value limbs.old * m + more }
 {
     let mut carry = more;
-    let mut i = 0;
-    while i < limbs.len() {
-        let s = multiply_step(limbs[i], m, carry);
-        limbs[i] = s.limb;
+    for x in limbs.iter_mut() {
+        let s = multiply_step(*x, m, carry);
+        *x = s.limb;
         carry = s.carry;
-        i += 1;
     }
     carry
 }
 
-// `other` is as long as `limbs`.
-fn add_same(limbs: &mut [u32], other: &[u32]) -> u32
-    requires { length other.now ≡ length limbs.old }
-    ensures { (value limbs.new + result * 2 ^ (32 * length limbs.old) ≡ value limbs.old + value other.now) × (result ≤ 1) }
-{
-    let mut carry: u32 = 0;
-    let mut i = 0;
-    while i < limbs.len() {
-        let s = add_step(limbs[i], other[i], carry);
-        limbs[i] = s.limb;
-        carry = s.carry;
-        i += 1;
-    }
-    carry
+// What is done to each limb from the lowest up: another one is added, or taken away.
+trait Column {
+    ghost away: { Bool };
+
+    fn step(x: u32, y: u32, carry: u32) -> Digit<u32>
+        requires { carry ≤ 1 }
+        ensures { Carries away 4294967296 x result.limb y carry result.carry × (result.carry ≤ 1) };
 }
 
-// Where there is no carry there is nothing to do.
-fn add_carry(limbs: &mut [u32], carry: u32) -> u32
-    requires { carry ≤ 1 }
-    ensures { (value limbs.new + result * 2 ^ (32 * length limbs.old) ≡ value limbs.old + carry) × (result ≤ 1) }
-{
-    if carry == 0 {
-        return 0;
+struct Sum;
+
+impl Column for Sum {
+    ghost away = { false };
+
+    fn step(x: u32, y: u32, carry: u32) -> Digit<u32> {
+        add_step(x, y, carry)
     }
-    times_add(limbs, 1, 1) as u32
+}
+
+struct Difference;
+
+impl Column for Difference {
+    ghost away = { true };
+
+    fn step(x: u32, y: u32, carry: u32) -> Digit<u32> {
+        subtract_step(x, y, carry)
+    }
+}
+
+// Works on the limbs that `other` has, and on those above them as long as anything is carried; returns what is carried out of the top
+// limb.
+fn columns<C: Column>(limbs: &mut [u32], other: &[u32]) -> u32
+    requires { length other.now ≤ length limbs.old }
+    ensures { Carries C.away (2 ^ (32 * length limbs.old)) (value limbs.old) (value limbs.new) (value other.now) 0 result × (result ≤ 1) }
+{
+    let mut carry = 0;
+    for (i, y) in other.iter().enumerate() {
+        let s = C::step(limbs[i], *y, carry);
+        limbs[i] = s.limb;
+        carry = s.carry;
+    }
+    for j in other.len()..limbs.len() {
+        if carry == 0 {
+            return 0;
+        }
+        let s = C::step(limbs[j], 0, carry);
+        limbs[j] = s.limb;
+        carry = s.carry;
+    }
+    carry
 }
 
 // Adds; returns what is carried out of the top limb (GMP's mpn_add).
@@ -51,44 +75,7 @@ pub fn add(limbs: &mut [u32], other: &[u32]) -> u32
     requires { length other.now ≤ length limbs.old }
     ensures { (value limbs.new + result * 2 ^ (32 * length limbs.old) ≡ value limbs.old + value other.now) × (result ≤ 1) }
 {
-    let n = other.len();
-    let carry = add_same(&mut limbs[..n], other);
-    add_carry(&mut limbs[n..], carry)
-}
-
-// `other` is as long as `limbs`.
-fn subtract_same(limbs: &mut [u32], other: &[u32]) -> u32
-    requires { length other.now ≡ length limbs.old }
-    ensures { (value limbs.new + value other.now ≡ value limbs.old + result * 2 ^ (32 * length limbs.old)) × (result ≤ 1) }
-{
-    let mut borrow: u32 = 0;
-    let mut i = 0;
-    while i < limbs.len() {
-        let s = subtract_step(limbs[i], other[i], borrow);
-        limbs[i] = s.limb;
-        borrow = s.carry;
-        i += 1;
-    }
-    borrow
-}
-
-// Stops where nothing is borrowed any more.
-fn subtract_borrow(limbs: &mut [u32], borrow: u32) -> u32
-    requires { borrow ≤ 1 }
-    ensures { (value limbs.new + borrow ≡ value limbs.old + result * 2 ^ (32 * length limbs.old)) × (result ≤ 1) }
-{
-    let mut left = borrow;
-    let mut i = 0;
-    while i < limbs.len() {
-        if left == 0 {
-            return 0;
-        }
-        let s = subtract_step(limbs[i], 0, left);
-        limbs[i] = s.limb;
-        left = s.carry;
-        i += 1;
-    }
-    left
+    columns::<Sum>(limbs, other)
 }
 
 // Subtracts; returns what is borrowed above the top limb (GMP's mpn_sub).
@@ -96,9 +83,57 @@ pub fn subtract(limbs: &mut [u32], other: &[u32]) -> u32
     requires { length other.now ≤ length limbs.old }
     ensures { (value limbs.new + value other.now ≡ value limbs.old + result * 2 ^ (32 * length limbs.old)) × (result ≤ 1) }
 {
-    let n = other.len();
-    let borrow = subtract_same(&mut limbs[..n], other);
-    subtract_borrow(&mut limbs[n..], borrow)
+    columns::<Difference>(limbs, other)
+}
+
+// What is divided by, limb by limb from the top one down.
+trait Divisor {
+    ghost by: { Self → ℕ };
+
+    fn step(&self, r: u32, x: u32) -> Digit<u32>
+        requires { r < by self.now }
+        ensures { (r * 4294967296 + x ≡ result.limb * by self.now + result.carry) × (result.carry < by self.now) };
+}
+
+#[derive(Clone, Copy)]
+struct Limb {
+    d: u32,
+}
+
+impl Divisor for Limb {
+    ghost by = { λ l. l.d };
+
+    fn step(&self, r: u32, x: u32) -> Digit<u32> {
+        divide_step(r, x, self.d)
+    }
+}
+
+#[derive(Clone, Copy)]
+struct Power {
+    s: u32,
+    ghost within: { s < 32 },
+}
+
+impl Divisor for Power {
+    ghost by = { λ p. 2 ^ p.s };
+
+    fn step(&self, r: u32, x: u32) -> Digit<u32> {
+        shift_step(r, x, self.s)
+    }
+}
+
+// Returns the remainder.
+fn over<D: Divisor + Copy>(limbs: &mut [u32], d: D) -> u32
+    requires { 0 < D.by d }
+    ensures { (value limbs.old ≡ value limbs.new * D.by d + result) × (result < D.by d) }
+{
+    let mut r = 0;
+    for i in (0..limbs.len()).rev() {
+        let s = d.step(r, limbs[i]);
+        limbs[i] = s.limb;
+        r = s.carry;
+    }
+    r
 }
 
 // Divides by d; returns the remainder (GMP's mpn_divrem_1).
@@ -106,15 +141,7 @@ pub fn divide(limbs: &mut [u32], d: u32) -> u32
     requires { 0 < d }
     ensures { (value limbs.old ≡ value limbs.new * d + result) × (result < d) }
 {
-    let mut r: u32 = 0;
-    let mut i = limbs.len();
-    while 0 < i {
-        i -= 1;
-        let s = divide_step(r, limbs[i], d);
-        limbs[i] = s.limb;
-        r = s.carry;
-    }
-    r
+    over(limbs, Limb { d })
 }
 
 // Divides by 2 ^ s; returns the remainder (GMP's mpn_rshift).
@@ -122,13 +149,5 @@ pub fn shift_down(limbs: &mut [u32], s: u32) -> u32
     requires { s < 32 }
     ensures { (value limbs.old ≡ value limbs.new * 2 ^ s + result) × (result < 2 ^ s) }
 {
-    let mut r: u32 = 0;
-    let mut i = limbs.len();
-    while 0 < i {
-        i -= 1;
-        let q = shift_step(r, limbs[i], s);
-        limbs[i] = q.limb;
-        r = q.carry;
-    }
-    r
+    over(limbs, Power { s })
 }

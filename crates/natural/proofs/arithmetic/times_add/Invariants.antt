@@ -1,11 +1,6 @@
--- The loop's invariant: the limbs below i and the carry are the product of those at entry, and `more`.
-use Prim.Native.Nat.{◌-◌}
-use lib.ListN.{length}
+-- The loop's invariant: the limbs below the index and the carry are the product of those at entry, and `more`.
 use Rattle.natural.proofs.Carry.{Carried}
 use Rattle.natural.proofs.arithmetic.times_add.Given as goal
 
-abbrev pub invariant-loop-i : goal.invariant-loop-i
-invariant-loop-i l = Carried l.limbs l.initial.limbs l.m l.i l.carry l.more
-
-abbrev pub decreases-loop-i : goal.decreases-loop-i
-decreases-loop-i l = length l.limbs - l.i
+abbrev pub invariant-loop-x : goal.invariant-loop-x
+invariant-loop-x l = Carried l.limbs l.initial.limbs l.m l.x-index l.carry l.more

@@ -1,9 +1,6 @@
 -- The loop's invariant: the limbs from i on and r are the quotient and the remainder of those at entry.
 use Rattle.natural.proofs.Division.{Divided}
-use Rattle.natural.proofs.arithmetic.divide.Given as goal
+use Rattle.natural.proofs.arithmetic.over.Given as goal
 
 abbrev pub invariant-loop-i : goal.invariant-loop-i
-invariant-loop-i l = Divided l.limbs l.initial.limbs l.d l.i l.r
-
-abbrev pub decreases-loop-i : goal.decreases-loop-i
-decreases-loop-i l = l.i
+invariant-loop-i g l = Divided l.limbs l.initial.limbs (g.D.Divisor.by l.d) l.i l.r
