@@ -10,12 +10,12 @@ use Prim.Native.Nat.{ℕ, zero, suc, ◌+◌, ◌-◌, ◌*◌, ◌/◌, ◌%◌
 use native.Mathlib.Nat.{div-add-mod', mod-lt, mul-pos, le-mul_of_pos_right}
 use native.Mathlib.Omega.{arith}
 use lib.Arith.{digits_lt, digits_div, digits_mod}
-use lib.ListN.{length, take, drop, get_or, length-drop, drop_of_length-le}
+use lib.ListN.{length, take, drop, length-drop, drop_of_length-le}
 use lib.Seq.{take_at, drop_at, length-take-le}
-use lib.Pow.{pow_pos}
+use lib.Pow.{pow_pos, pow_mono}
 use Rattle.limbs.specs.Value.{value}
 use Rattle.natural.specs.Ceiling.{ceiling}
-use Rattle.limbs.proofs.Value.{weight_split, value_split, value_below, value_small, value_none, part_from}
+use Rattle.limbs.proofs.Value.{weight_split, value_split, value_none, part_from}
 use Rattle.natural.proofs.Ceiling.{ceiling_of}
 
 pub divided_by_one : (v d : ℕ) → d ≡ 1 → (v ≡ v * d + 0) × (0 < d)
@@ -48,19 +48,18 @@ rounded v p d u q a b a' b' f n x ea ha eb hb ea' eb' en ex =
 pub left_down : (v p d u q a b : ℕ) → v ≡ u * p + a → a < p → u ≡ q * d + b → b < d → q ≡ v / (p * d)
 left_down v p d u q a b ea ha eb hb = sym (twice p d v u q a b ea ha eb hb).0
 
--- what `round_up` leaves where all limbs fall below 2 ^ k
-pub none_down : (l : List ℕ) (k d : ℕ) → ((i : ℕ) → get_or l i 0 < 4294967296) → length l ≤ k / 32 → 0 < d → value (drop (k / 32) l) ≡ value l / (2 ^ k * d)
-none_down l k d h n hd =
-    let b : value l < 2 ^ k * d = omega (arith, value_small l k h n, le-mul_of_pos_right (2 ^ k) hd) in
-    let e : value l ≡ 0 * (2 ^ k * d) + value l = omega arith in
-    value_none l (k / 32) n ∙ sym (digits_div 0 b) ∙ ap (λ (z : ℕ). z / (2 ^ k * d)) (sym e)
+-- n limbs hold v, and all of them fall below 2 ^ k
+none_left : (v n k d : ℕ) → v < 2 ^ (32 * n) → n ≤ k / 32 → 0 < d → v < 2 ^ k * d
+none_left v n k d b h hd = omega (arith, pow_mono {i = 32 * n} {j = k} (omega arith), le-mul_of_pos_right (2 ^ k) hd)
 
-pub all_below : (l : List ℕ) (k d : ℕ) → ((i : ℕ) → get_or l i 0 < 4294967296) → length l ≤ k / 32 → 0 < d → min 1 (value l) ≡ min 18446744073709551615 (ceiling (value l) (2 ^ k * d))
-all_below l k d h n hd =
-    let b : value l < 2 ^ k * d = omega (arith, value_small l k h n, le-mul_of_pos_right (2 ^ k) hd) in
+pub all_below : (v n k d : ℕ) → v < 2 ^ (32 * n) → n ≤ k / 32 → 0 < d → min 1 v ≡ min 18446744073709551615 (ceiling v (2 ^ k * d))
+all_below v n k d b h hd = omega (arith, ceiling_of v (2 ^ k * d) 0 v (omega arith) (none_left v n k d b h hd))
+
+-- what `round_up` leaves there
+pub none_down : (l : List ℕ) (k d : ℕ) → value l < 2 ^ (32 * length l) → length l ≤ k / 32 → 0 < d → value (drop (k / 32) l) ≡ value l / (2 ^ k * d)
+none_down l k d b n hd =
     let e : value l ≡ 0 * (2 ^ k * d) + value l = omega arith in
-    let t : ceiling (value l) (2 ^ k * d) ≡ 0 + min 1 (value l) = ceiling_of (value l) (2 ^ k * d) 0 (value l) e b in
-    omega arith
+    value_none l (k / 32) n ∙ sym (digits_div 0 (none_left (value l) (length l) k d b n hd)) ∙ ap (λ (z : ℕ). z / (2 ^ k * d)) (sym e)
 
 -- what is left at W and above counts like what is left below W
 same_flag : (R W r : ℕ) → r < W → min 1 (R * W + r) ≡ min 1 (min 1 r + R)
@@ -85,6 +84,10 @@ module _ (N W p d U r k : ℕ) (e : N ≡ U * W + r) (h : r < W) (w : W * p ≡ 
   down_at : U / (p * d) ≡ N / (2 ^ k * d)
   down_at = sym (digits_div (U / (p * d)) parts.1) ∙ (λ j. sym parts.0 j / sym parts.2 j)
 
+-- the limbs below limb j are j
+part_below : (l : List ℕ) (j : ℕ) → j ≤ length l → value (take j l) < 2 ^ (32 * length (take j l)) → value (take j l) < 2 ^ (32 * j)
+part_below l j h b = rw (length-take-le j l h) at b
+
 -- what `round_up` leaves where not: the limbs of l from j on became f
 module _ (l f : List ℕ) (j : ℕ) (h : j ≤ length l) where
   rest : drop (length l - j) (drop j l) ≡ []
@@ -96,16 +99,16 @@ module _ (l f : List ℕ) (j : ℕ) (h : j ≤ length l) where
   some_above : value (drop j (take j l ++ (f ++ drop (length l - j) (drop j l)))) ≡ value f
   some_above = ap value (drop_at (take j l) (f ++ drop (length l - j) (drop j l)) j (length-take-le j l h)) ∙ ap (λ (z : List ℕ). value (f ++ z)) rest ∙ ap value (append-nil f)
 
-  pub some_down : (k d : ℕ) → j ≡ k / 32 → ((i : ℕ) → get_or l i 0 < 4294967296) → 0 < d → value f ≡ value (take (length l - j) (drop j l)) / (2 ^ (k % 32) * d)
+  pub some_down : (k d : ℕ) → j ≡ k / 32 → value (take j l) < 2 ^ (32 * length (take j l)) → 0 < d → value f ≡ value (take (length l - j) (drop j l)) / (2 ^ (k % 32) * d)
       → value (drop j (take j l ++ (f ++ drop (length l - j) (drop j l)))) ≡ value l / (2 ^ k * d)
   some_down k d ej b hd e =
       let w : 2 ^ (32 * j) * 2 ^ (k % 32) ≡ 2 ^ k = ap (λ (z : ℕ). 2 ^ (32 * z) * 2 ^ (k % 32)) ej ∙ weight_split k in
       some_above ∙ e ∙ ap (λ (z : List ℕ). value z / (2 ^ (k % 32) * d)) (part_from l j)
-      ∙ down_at (value l) (2 ^ (32 * j)) (2 ^ (k % 32)) d (value (drop j l)) (value (take j l)) k (value_split l j h) (value_below l j b) w (pow_pos (k % 32)) hd
+      ∙ down_at (value l) (2 ^ (32 * j)) (2 ^ (k % 32)) d (value (drop j l)) (value (take j l)) k (value_split l j h) (part_below l j h b) w (pow_pos (k % 32)) hd
 
-pub not_below : (l : List ℕ) (k d f : ℕ) → ((i : ℕ) → get_or l i 0 < 4294967296) → k / 32 < length l → 0 < d → f ≡ min 1 (value (take (k / 32) l))
+pub not_below : (l : List ℕ) (k d f : ℕ) → value (take (k / 32) l) < 2 ^ (32 * length (take (k / 32) l)) → k / 32 < length l → 0 < d → f ≡ min 1 (value (take (k / 32) l))
     → ceiling (value l) (2 ^ k * d)
     ≡ value (take (length l - k / 32) (drop (k / 32) l)) / (2 ^ (k % 32) * d) + min 1 (f + value (take (length l - k / 32) (drop (k / 32) l)) % (2 ^ (k % 32) * d))
-not_below l k d f h n hd ef =
+not_below l k d f b n hd ef =
     rw (part_from l (k / 32))
-    (split_at (value l) (2 ^ (32 * (k / 32))) (2 ^ (k % 32)) d (value (drop (k / 32) l)) (value (take (k / 32) l)) k (value_split l (k / 32) (omega arith)) (value_below l (k / 32) h) (weight_split k) (pow_pos (k % 32)) hd f ef)
+    (split_at (value l) (2 ^ (32 * (k / 32))) (2 ^ (k % 32)) d (value (drop (k / 32) l)) (value (take (k / 32) l)) k (value_split l (k / 32) (omega arith)) (part_below l (k / 32) (omega arith) b) (weight_split k) (pow_pos (k % 32)) hd f ef)

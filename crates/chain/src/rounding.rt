@@ -1,5 +1,5 @@
 // A number over 2 ^ k * d, rounded up once.
-ghost use Rattle.std.specs.Prelude.{◌≡◌, ◌+◌, ◌*◌, ◌/◌, ◌%◌, ◌^◌, ◌≤◌, ◌<◌, min, take, drop};
+ghost use Rattle.std.specs.Prelude.{◌≡◌, ◌+◌, ◌*◌, ◌/◌, ◌%◌, ◌^◌, ◌≤◌, ◌<◌, min, length, take, drop};
 ghost use Rattle.limbs.specs.Value.{value};
 ghost use Rattle.natural.specs.Ceiling.{ceiling};
 
@@ -7,27 +7,18 @@ use limbs::limb::wide;
 use limbs::reading::{is_zero, to_u64};
 use natural::arithmetic::{divide, shift_down};
 
-// 1 where the number is not 0.
+// 1 where the number is not 0. A number of n limbs is below 2 ^ (32 * n).
 fn sticky(limbs: &[u32]) -> u64
-    ensures { result ≡ min 1 (value limbs.now) }
+    ensures { (result ≡ min 1 (value limbs.now)) × (value limbs.now < 2 ^ (32 * length limbs.now)) }
 {
-    if is_zero(limbs) {
-        return 0;
-    }
-    1
+    u64::from(!is_zero(limbs))
 }
 
 // One more where anything is left over; never past the largest u64.
 fn up(q: u64, left: u64) -> u64
     ensures { result ≡ min 18446744073709551615 (q + min 1 left) }
 {
-    if left == 0 {
-        return q;
-    }
-    if q == 18446744073709551615 {
-        return q;
-    }
-    q + 1
+    q.saturating_add(left.min(1))
 }
 
 // Divides by d as `divide` does; where d is 1 there is nothing to do.

@@ -1,8 +1,8 @@
 -- Laws on what limbs hold.
---   value_above, use_part                   `in_use`: the limbs from j on are 0
---   zero_unused                             `is_zero`
---   zero_of, some_of, flag_zero, flag_some  what a caller of `is_zero` learns
---   number_none, number_one, number_more    `to_u64`
+--   value_above, use_part                  `in_use`: the limbs from j on are 0
+--   zero_unused                            `is_zero`
+--   zero_of, some_of                       what a caller of `is_zero` learns
+--   number_none, number_one, number_more   `to_u64`
 use mathlib.Core.Path.{◌≡◌, refl, sym, ap, ◌∙◌}
 use mathlib.Core.Bool.{true, false}
 use mathlib.Core.List.{List, [], ◌∷◌}
@@ -54,12 +54,6 @@ zero_of v e = eqb-true v 0 (sym e)
 
 pub some_of : (v : ℕ) → false ≡ eqb v 0 → 0 < v
 some_of v e = let z : v ≡ 0 → ⊥ = eqb-false v 0 (sym e) in omega arith
-
-pub flag_zero : (v : ℕ) → true ≡ eqb v 0 → 0 ≡ min 1 v
-flag_zero v e = let z : v ≡ 0 = zero_of v e in omega arith
-
-pub flag_some : (v : ℕ) → false ≡ eqb v 0 → 1 ≡ min 1 v
-flag_some v e = let z : 0 < v = some_of v e in omega arith
 
 pub number_none : (l : List ℕ) → length l ≡ 0 → 0 ≡ min 18446744073709551615 (value l)
 unfolding value

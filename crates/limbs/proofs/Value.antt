@@ -5,7 +5,7 @@
 --   value_append, value_split, value_same            parts of a list
 --   part_from, value_front, value_back               a part of a slice, and the slice after a call changed that part
 --   store_two, store_three                           a number of two limbs, or a limb and two, stored
---   value_below, value_small                         sizes
+--   value_below, value_bound                         sizes
 --   front_stays, stays_above                         limbs that are not written
 --   value_injective                                  what contracts on `value` say of each limb
 -- What limbs hold is in Held; what a loop does to a value is in Carry and Division of crate natural.
@@ -16,8 +16,8 @@ use native.Mathlib.Nat.{le_of_suc-le-suc}
 use native.Mathlib.Omega.{arith}
 use native.Mathlib.Numerals.{add-one}
 use lib.ListN.{length, take, drop, get_or, set, drop_of_length-le, take-append-drop, length-drop, length-set}
-use lib.Pow.{pow-add, pow_pos, pow_mono}
-use lib.Seq.{drop-cons, lt-length-set, get_or-set_same, drop-set-lt, take_all, take_at, length-take-le, drop-append-add, drop-drop}
+use lib.Pow.{pow-add, pow_pos}
+use lib.Seq.{drop-cons, lt-length-set, get_or-set_same, drop-set-lt, take_all, take-length, take_at, length-take-le, drop-append-add, drop-drop}
 use Rattle.limbs.specs.Value.{value}
 
 pub weight_suc : (i : ℕ) → 2 ^ (32 * suc i) ≡ 4294967296 * 2 ^ (32 * i)
@@ -153,10 +153,9 @@ value_below l zero h = omega arith
 value_below [] (suc j) h = pow_pos (32 * suc j)
 value_below (x ∷ l) (suc j) h = omega (arith, h 0, value_below l j (λ i. h (suc i)), weight_suc j)
 
-pub value_small : (l : List ℕ) (k : ℕ) → ((i : ℕ) → get_or l i 0 < 4294967296) → length l ≤ k / 32 → value l < 2 ^ k
-value_small l k h n =
-    let e : value (take (k / 32) l) ≡ value l = ap value (take_all (k / 32) l n) in
-    omega (arith, value_below l (k / 32) h, pow_mono {i = 32 * (k / 32)} {j = k} (omega arith))
+-- of all limbs
+pub value_bound : (l : List ℕ) → ((i : ℕ) → get_or l i 0 < 4294967296) → value l < 2 ^ (32 * length l)
+value_bound l h = rw (take-length l) at (value_below l (length l) h)
 
 -- Limbs as many, with the same value, are the same limbs: a contract on the value of a slice says every limb of it.
 pub value_injective : (l m : List ℕ) → length l ≡ length m → ((i : ℕ) → get_or l i 0 < 4294967296) → ((i : ℕ) → get_or m i 0 < 4294967296) → value l ≡ value m → l ≡ m

@@ -1,19 +1,21 @@
 -- Laws on the wide starts.
+--   value_zeros              `clear`
 --   laid, lay_done           `lay`: the limbs below are 0, and x * 2 ^ (at % 32) stands above them
 --   lay_stays                `lay`: the limbs that it does not write
---   complement_done          `complement`: nothing is borrowed
+--   less_done                `less`: nothing is borrowed
 --   add_term_done            `add_term`
 --   term_small, sum_done     `lay_sum`: nothing is carried out
-use mathlib.Core.Path.{◌≡◌, ap, ◌∙◌}
+use mathlib.Core.Path.{◌≡◌, refl, ap, ◌∙◌}
 use mathlib.Core.List.{List, [], ◌∷◌, ◌++◌}
 use Prim.Native.Nat.{ℕ, zero, suc, ◌+◌, ◌-◌, ◌*◌, ◌/◌, ◌%◌, ◌^◌, ◌≤◌, ◌<◌}
 use native.Mathlib.Nat.{mul-lt-mul_of_pos_right}
 use native.Mathlib.Omega.{arith}
-use lib.ListN.{length, take, drop, get_or, set}
+use lib.ListN.{length, take, drop, set}
 use lib.Pow.{pow_pos, pow-add, pow_mono}
-use lib.Seq.{length-take-le, length_front, drop-set-lt}
+use lib.Seq.{length_front, drop-set-lt}
+use Rattle.std.specs.Prelude.{replicate}
 use Rattle.limbs.specs.Value.{value}
-use Rattle.limbs.proofs.Value.{weight_split, value_front, value_below, store_three, value_back}
+use Rattle.limbs.proofs.Value.{weight_split, value_front, store_three, value_back}
 use Rattle.natural.proofs.Carry.{above, weight_above}
 use Rattle.limbs.proofs.Value.{front_stays}
 
@@ -40,19 +42,16 @@ lay_stays l e n y lo hi h len =
     drop-set-lt (n + 3) (set (set (e ++ drop n l) n y) (n + 1) lo) (n + 2) hi (omega arith) ∙ drop-set-lt (n + 3) (set (e ++ drop n l) n y) (n + 1) lo (omega arith) ∙ drop-set-lt (n + 3) (e ++ drop n l) n y (omega arith)
     ∙ front_stays l e n (n + 3) (omega arith) len (omega arith)
 
-no_borrow : (v m t b w : ℕ) → v + m ≡ 2 ^ t + b * w → v < w → m ≤ 2 ^ t → v + m ≡ 2 ^ t
-no_borrow v m t zero w e h hm = omega arith
-no_borrow v m t (suc b) w e h hm = omega arith
-
--- the first n limbs of l, which held 2 ^ t, became e
-pub complement_done : (l e : List ℕ) (n m t b lo hi : ℕ) → n ≤ length l → length e ≡ length (take n l) → value (take n l) ≡ 1 * 2 ^ t
-    → value e + value (lo ∷ hi ∷ []) ≡ value (take n l) + b * 2 ^ (32 * length (take n l)) → lo ≡ m % 4294967296 → hi ≡ m / 4294967296 → m ≤ 2 ^ t
-    → ((i : ℕ) → get_or (e ++ drop n l) i 0 < 4294967296) → value (take n (e ++ drop n l)) + m ≡ 2 ^ t
+-- nothing is borrowed, where m is not above the number
+pub less_done : (v u m b w lo hi : ℕ) → v < w → m ≤ u → v + value (lo ∷ hi ∷ []) ≡ u + b * w → lo ≡ m % 4294967296 → hi ≡ m / 4294967296 → v + m ≡ u
 unfolding value
-complement_done l e n m t b lo hi h len p s el eh hm f =
-    let a : value (take n (e ++ drop n l)) ≡ value e = (value_front l e n h len).0 in
-    let w : b * 2 ^ (32 * length (take n l)) ≡ b * 2 ^ (32 * n) = ap (λ (k : ℕ). b * 2 ^ (32 * k)) (length-take-le n l h) in
-    no_borrow (value (take n (e ++ drop n l))) m t b (2 ^ (32 * n)) (omega arith) (value_below (e ++ drop n l) n f) hm
+less_done v u m zero w lo hi h hm e el eh = omega arith
+less_done v u m (suc b) w lo hi h hm e el eh = omega arith
+
+pub value_zeros : (n : ℕ) → value (replicate n 0) ≡ 0
+unfolding value
+value_zeros zero = refl
+value_zeros (suc n) = omega (arith, value_zeros n)
 
 -- the limbs of l from k / 32 on became f, and y is the term's number in them
 pub add_term_done : (l f : List ℕ) (k r y x : ℕ) → k / 32 ≤ length l → y ≡ x * 2 ^ (k % 32)

@@ -11,11 +11,7 @@ use natural::arithmetic::{add, subtract};
 fn clear(limbs: &mut [u32])
     ensures { value limbs.new ≡ 0 }
 {
-    let mut i = 0;
-    while i < limbs.len() {
-        limbs[i] = 0;
-        i += 1;
-    }
+    limbs.fill(0);
 }
 
 // Writes x * 2 ^ at; returns how many limbs that takes (GMP's mpn_lshift, of two limbs). The limbs above them stay.
@@ -32,14 +28,22 @@ pub fn lay(limbs: &mut [u32], x: u64, at: usize) -> usize
     n + 3
 }
 
+// Takes m away from a number that is not below it.
+fn less(limbs: &mut [u32], m: u64)
+    requires { (2 ≤ length limbs.old) × (m ≤ value limbs.old) }
+    ensures { value limbs.new + m ≡ value limbs.old }
+{
+    let other = [low(m), high(m)];
+    subtract(limbs, &other);
+}
+
 // Writes 2 ^ t - m; returns how many limbs are in use. It works on t / 32 + 3 limbs, and those above them stay.
 pub fn complement(limbs: &mut [u32], t: usize, m: u64) -> usize
     requires { (t / 32 + 3 ≤ length limbs.old) × (m ≤ 2 ^ t) }
     ensures { (value (take result limbs.new) + m ≡ 2 ^ t) × (result ≤ t / 32 + 3) × (0 < result → 0 < get_or limbs.new (result - 1) 0) × (value (take (t / 32 + 3) limbs.new) + m ≡ 2 ^ t) × (drop (t / 32 + 3) limbs.new ≡ drop (t / 32 + 3) limbs.old) }
 {
     let n = lay(limbs, 1, t);
-    let other = [low(m), high(m)];
-    subtract(&mut limbs[..n], &other);
+    less(&mut limbs[..n], m);
     in_use(&limbs[..n])
 }
 
@@ -68,7 +72,7 @@ fn lay_sum(limbs: &mut [u32], x: u64, s: usize, y: u64, t: usize)
 pub fn larger(a: usize, b: usize) -> usize
     ensures { result ≡ max a b }
 {
-    if a < b { b } else { a }
+    a.max(b)
 }
 
 // Writes x * 2 ^ s + y * 2 ^ t; returns how many limbs are in use. It works on as many as the larger shift asks for, and those

@@ -1,39 +1,38 @@
--- Nothing is borrowed, since m is at most 2 ^ t.
-use mathlib.Core.Path.{sym, ap, ◌∙◌}
+-- 2 ^ t is laid, and m taken away from it.
+use mathlib.Core.Path.{◌≡◌, sym, ap, ◌∙◌}
 use mathlib.Core.List.{◌++◌}
 use lib.ListN.{take, drop}
-use Prim.Native.Nat.{ℕ, ◌+◌, ◌/◌}
+use Prim.Native.Nat.{ℕ, ◌+◌, ◌/◌, ◌^◌}
 use native.Mathlib.Omega.{arith}
 use lib.Seq.{length-take-le, length_front}
 use Rattle.limbs.specs.Value.{value}
 use Rattle.limbs.proofs.Held.{use_part}
-use Rattle.limbs.proofs.Value.{front_stays, stays_above}
-use Rattle.starts.proofs.Start.{complement_done}
+use Rattle.limbs.proofs.Value.{value_front, front_stays, stays_above}
 use Rattle.starts.proofs.complement.Goals as goal
 
 -- the first limbs are as many as `lay` wrote
 pub slice_bounds-in_use-end-2 : goal.slice_bounds-in_use-end-2
 slice_bounds-in_use-end-2 c =
-    sym (length-take-le _ _ (omega (arith, length_front c.lay-n.new.limbs c.subtract.new.limbs c.lay-n.result c.subtract.auto.limbs)))
+    sym (length-take-le _ _ (omega (arith, length_front c.lay-n.new.limbs c.less.new.limbs c.lay-n.result c.less.auto.limbs)))
 
 pub returns : goal.returns
 returns c =
     let a = c.args in
     let l = c.lay-n.new.limbs in
-    let e = c.subtract.new.limbs in
+    let e = c.less.new.limbs in
     let n = c.lay-n.result in
-    let k = length_front l e n c.subtract.auto.limbs in
+    let k = length_front l e n c.less.auto.limbs in
     let u = use_part (e ++ drop n l) n c.in_use.result (omega arith) c.in_use.ensures in
-    let d = complement_done l e n a.m a.t c.subtract.result _ _ (omega arith) c.subtract.auto.limbs c.lay-n.ensures.0 c.subtract.ensures.0 c.low.ensures c.high.ensures (omega arith) (λ i. (c.slice_known-3-1.given i).fits) in (
+    let d : value (take n (e ++ drop n l)) + a.m ≡ 2 ^ a.t = omega (arith, (value_front l e n (omega arith) c.less.auto.limbs).0) in (
       ap (λ (z : ℕ). z + a.m) u.0 ∙ d,
       omega arith,
       u.2,
       ap (λ (z : ℕ). value (take z (e ++ drop n l)) + a.m) (sym c.lay-n.ensures.1) ∙ d,
-      front_stays l e n (a.t / 32 + 3) (omega arith) c.subtract.auto.limbs (omega arith) ∙ stays_above l a.limbs.now n (a.t / 32 + 3) (omega arith) c.lay-n.ensures.2,
+      front_stays l e n (a.t / 32 + 3) (omega arith) c.less.auto.limbs (omega arith) ∙ stays_above l a.limbs.now n (a.t / 32 + 3) (omega arith) c.lay-n.ensures.2,
     )
 
-pub slice_bounds-subtract-end-2 : goal.slice_bounds-subtract-end-2
-slice_bounds-subtract-end-2 c = sym (length-take-le _ _ (omega arith))
+pub slice_bounds-less-end-2 : goal.slice_bounds-less-end-2
+slice_bounds-less-end-2 c = sym (length-take-le _ _ (omega arith))
 
-pub subtract-requires : goal.subtract-requires
-subtract-requires c = rw (length-take-le c.lay-n.result c.lay-n.new.limbs (omega arith)) (omega arith)
+pub less-requires : goal.less-requires
+less-requires c = rw (length-take-le c.lay-n.result c.lay-n.new.limbs (omega arith)) (omega arith)
