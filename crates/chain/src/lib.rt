@@ -2,7 +2,7 @@
 // starts.
 // A function that returns a count leaves its number in that many limbs, and limbs that it does not need stay as they were.
 // Rounding up leaves the number rounded down in them.
-#![tactic(auto)]
+#![tactic(auto, using(limbs::proofs::Parts::parts))]
 
 pub mod products;
 pub mod rounding;

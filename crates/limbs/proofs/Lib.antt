@@ -2,3 +2,4 @@
 pub mod Steps
 pub mod Value
 pub mod Held
+pub mod Parts

@@ -1,5 +1,5 @@
 // The wide starts of a chain: a number shifted up, a power of two less a number, and a sum of two numbers shifted up.
-#![tactic(auto)]
+#![tactic(auto, using(limbs::proofs::Parts::parts))]
 
 ghost use Rattle.std.specs.Prelude.{◌≡◌, ◌+◌, ◌-◌, ◌*◌, ◌/◌, ◌^◌, ◌≤◌, ◌<◌, max, length, take, drop, get_or};
 ghost use Rattle.limbs.specs.Value.{value};

@@ -4,16 +4,11 @@ use mathlib.Core.List.{◌++◌}
 use lib.ListN.{take, drop}
 use Prim.Native.Nat.{ℕ, ◌+◌, ◌/◌, ◌^◌}
 use native.Mathlib.Omega.{arith}
-use lib.Seq.{length-take-le, length_front}
+use lib.Seq.{length_front}
 use Rattle.limbs.specs.Value.{value}
 use Rattle.limbs.proofs.Held.{use_part}
 use Rattle.limbs.proofs.Value.{value_front, front_stays, stays_above}
 use Rattle.starts.proofs.complement.Goals as goal
-
--- the first limbs are as many as `lay` wrote
-pub slice_bounds-in_use-end-2 : goal.slice_bounds-in_use-end-2
-slice_bounds-in_use-end-2 c =
-    sym (length-take-le _ _ (omega (arith, length_front c.lay-n.new.limbs c.less.new.limbs c.lay-n.result c.less.auto.limbs)))
 
 pub returns : goal.returns
 returns c =
@@ -30,9 +25,3 @@ returns c =
       ap (λ (z : ℕ). value (take z (e ++ drop n l)) + a.m) (sym c.lay-n.ensures.1) ∙ d,
       front_stays l e n (a.t / 32 + 3) (omega arith) c.less.auto.limbs (omega arith) ∙ stays_above l a.limbs.now n (a.t / 32 + 3) (omega arith) c.lay-n.ensures.2,
     )
-
-pub slice_bounds-less-end-2 : goal.slice_bounds-less-end-2
-slice_bounds-less-end-2 c = sym (length-take-le _ _ (omega arith))
-
-pub less-requires : goal.less-requires
-less-requires c = rw (length-take-le c.lay-n.result c.lay-n.new.limbs (omega arith)) (omega arith)

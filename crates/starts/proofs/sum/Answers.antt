@@ -4,17 +4,12 @@ use mathlib.Core.List.{◌++◌}
 use Prim.Native.Nat.{ℕ, ◌+◌, ◌*◌, ◌/◌, ◌^◌}
 use native.Mathlib.Omega.{arith}
 use lib.ListN.{take, drop}
-use lib.Seq.{length-take-le, length_front}
+use lib.Seq.{length_front}
 use Rattle.limbs.specs.Value.{value}
 use Rattle.limbs.proofs.Value.{value_front}
 use Rattle.limbs.proofs.Held.{use_part}
 use Rattle.limbs.proofs.Value.{front_stays}
 use Rattle.starts.proofs.sum.Goals as goal
-
--- the first limbs are as many as were worked on
-pub slice_bounds-in_use-end-2 : goal.slice_bounds-in_use-end-2
-slice_bounds-in_use-end-2 c =
-    sym (length-take-le _ _ (omega (arith, length_front c.args.limbs.now c.lay_sum.new.limbs (c.larger.result / 32 + 3) c.lay_sum.auto.limbs)))
 
 pub returns : goal.returns
 returns c =
@@ -32,9 +27,3 @@ returns c =
       ap (λ (z : ℕ). value (take z (e ++ drop n l))) (sym o) ∙ f,
       ap (λ (z : ℕ). drop z (e ++ drop n l)) (sym o) ∙ front_stays l e n n (omega arith) c.lay_sum.auto.limbs (omega arith) ∙ ap (λ (z : ℕ). drop z l) o,
     )
-
-pub slice_bounds-lay_sum-end-2 : goal.slice_bounds-lay_sum-end-2
-slice_bounds-lay_sum-end-2 c = sym (length-take-le _ _ (omega arith))
-
-pub lay_sum-requires : goal.lay_sum-requires
-lay_sum-requires c = rw (length-take-le (c.larger.result / 32 + 3) c.args.limbs.now (omega arith)) (omega arith, omega arith)

@@ -1,8 +1,5 @@
 -- The carry out of the first n limbs takes no limb, one or two, the top one not 0.
-use mathlib.Core.Path.{sym}
 use native.Mathlib.Omega.{arith}
-use lib.ListN.{length-set}
-use lib.Seq.{length-take-le, length_front}
 use Rattle.limbs.proofs.Value.{front_stays}
 use Rattle.chain.proofs.Product.{grow_none, grow_one, grow_two}
 use Rattle.chain.proofs.products.grow.Goals as goal
@@ -16,14 +13,7 @@ returns-then-carry-lt4294967296 c =
     let g = grow_one c.args.limbs.now c.times_add-carry.new.limbs c.args.n _ c.times_add-carry.result c.times_add-carry.auto.limbs c.times_add-carry.ensures _ (omega arith) c.low.ensures c.if-carry-eq0.false c.if-carry-lt4294967296.true in
     (g.0, omega arith, omega arith, λ h. g.1, g.2)
 
-pub bounds-limbs-n-2 : goal.bounds-limbs-n-2
-bounds-limbs-n-2 c =
-    simp (length-set, length_front c.args.limbs.now c.times_add-carry.new.limbs c.args.n c.times_add-carry.auto.limbs) (omega arith)
-
 pub returns : goal.returns
 returns c =
     let g = grow_two c.args.limbs.now c.times_add-carry.new.limbs c.args.n _ c.times_add-carry.result c.times_add-carry.auto.limbs c.times_add-carry.ensures _ _ c.requires c.low.ensures c.high.ensures (omega arith) in
     (g.0, omega arith, omega arith, λ h. g.1, g.2)
-
-pub slice_bounds-times_add-end-2 : goal.slice_bounds-times_add-end-2
-slice_bounds-times_add-end-2 c = sym (length-take-le _ _ (omega arith))

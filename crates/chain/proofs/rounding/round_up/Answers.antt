@@ -1,8 +1,7 @@
 -- The limbs below limb k / 32 count by whether they are 0.
-use mathlib.Core.Path.{refl, sym, ◌∙◌}
+use mathlib.Core.Path.{refl, ◌∙◌}
 use Prim.Native.Nat.{◌/◌}
 use native.Mathlib.Omega.{arith}
-use lib.Seq.{length-take-le}
 use Rattle.chain.proofs.RoundedUp.{all_below, not_below, none_down, some_down, some_below}
 use Rattle.chain.proofs.rounding.round_up.Goals as goal
 
@@ -24,6 +23,3 @@ returns c =
       some_down l o (a.k / 32) (omega arith) a.k a.d refl s.1 c.requires c.quotient_up.ensures.1,
       some_below l o (a.k / 32) (omega arith),
     )
-
-pub slice_bounds-sticky-end-2 : goal.slice_bounds-sticky-end-2
-slice_bounds-sticky-end-2 c = sym (length-take-le _ _ (omega arith))
