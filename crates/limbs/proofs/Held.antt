@@ -14,7 +14,7 @@ use lib.Dec.{eqb}
 use lib.ListN.{length, take, drop, get_or, length-drop}
 use lib.Pow.{pow_pos}
 use lib.Seq.{take_all, take-take, get_or-take, get_or-drop, length-take-le}
-use Rattle.limbs.specs.Value.{value}
+use Rattle.limbs.specs.Value.{value, InUse}
 use Rattle.limbs.proofs.Value.{value_take, value_split}
 
 -- limbs that are all 0
@@ -31,7 +31,7 @@ value_above l j h z =
     omega (arith, value_split l j h)
 
 -- the number is 0 where no limb is in use
-pub zero_unused : (l : List ℕ) (r : ℕ) → (r ≤ length l) × (value (take r l) ≡ value l) × (0 < r → 0 < get_or l (r - 1) 0) → eqb r 0 ≡ eqb (value l) 0
+pub zero_unused : (l : List ℕ) (r : ℕ) → (r ≤ length l) × (value (take r l) ≡ value l) × InUse r l → eqb r 0 ≡ eqb (value l) 0
 unfolding value
 zero_unused l zero u = sym (eq-eqb (value l) 0 (sym u.1))
 zero_unused l (suc r) u =
@@ -42,8 +42,8 @@ zero_unused l (suc r) u =
     ne_eqb (suc r) 0 (λ z. omega arith) ∙ sym (ne_eqb (value l) 0 (λ z. omega arith))
 
 -- what `in_use` says of the first n limbs, said of the whole slice
-pub use_part : (l : List ℕ) (n r : ℕ) → n ≤ length l → (r ≤ length (take n l)) × (value (take r (take n l)) ≡ value (take n l)) × (0 < r → 0 < get_or (take n l) (r - 1) 0)
-    → (value (take r l) ≡ value (take n l)) × (r ≤ n) × (0 < r → 0 < get_or l (r - 1) 0)
+pub use_part : (l : List ℕ) (n r : ℕ) → n ≤ length l → (r ≤ length (take n l)) × (value (take r (take n l)) ≡ value (take n l)) × InUse r (take n l)
+    → (value (take r l) ≡ value (take n l)) × (r ≤ n) × InUse r l
 use_part l n r h u =
     let b : r ≤ n = omega (arith, length-take-le n l h) in
     (rw (take-take r n l b) at u.1, b, λ p. rw (get_or-take n l (r - 1) 0 (omega arith)) at (u.2 p))

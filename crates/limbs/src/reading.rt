@@ -1,12 +1,12 @@
 // What limbs hold: how many are in use, whether the number is 0, and the number itself.
-ghost use Rattle.std.specs.Prelude.{◌≡◌, ◌-◌, ◌≤◌, ◌<◌, min, eqb, length, take, get_or};
-ghost use Rattle.limbs.specs.Value.{value};
+ghost use Rattle.std.specs.Prelude.{◌≡◌, ◌≤◌, min, eqb, length, take};
+ghost use Rattle.limbs.specs.Value.{value, InUse};
 
 use crate::limb::wide;
 
 // How many limbs are left when the zero limbs at the top are dropped.
 pub fn in_use(limbs: &[u32]) -> usize
-    ensures { (result ≤ length limbs.now) × (value (take result limbs.now) ≡ value limbs.now) × (0 < result → 0 < get_or limbs.now (result - 1) 0) }
+    ensures { (result ≤ length limbs.now) × (value (take result limbs.now) ≡ value limbs.now) × InUse result limbs.now }
 {
     match limbs.iter().rposition(|&x| x != 0) {
         Some(i) => i + 1,

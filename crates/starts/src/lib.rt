@@ -1,8 +1,8 @@
 // The wide starts of a chain: a number shifted up, a power of two less a number, and a sum of two numbers shifted up.
 #![tactic(auto, using(limbs::proofs::Parts::parts))]
 
-ghost use Rattle.std.specs.Prelude.{◌≡◌, ◌+◌, ◌-◌, ◌*◌, ◌/◌, ◌^◌, ◌≤◌, ◌<◌, max, length, take, drop, get_or};
-ghost use Rattle.limbs.specs.Value.{value};
+ghost use Rattle.std.specs.Prelude.{◌≡◌, ◌+◌, ◌*◌, ◌/◌, ◌^◌, ◌≤◌, max, length, take, drop};
+ghost use Rattle.limbs.specs.Value.{value, InUse};
 
 use limbs::limb::{high, low, multiply_step, power};
 use limbs::reading::in_use;
@@ -40,7 +40,7 @@ fn less(limbs: &mut [u32], m: u64)
 // Writes 2 ^ t - m; returns how many limbs are in use. It works on t / 32 + 3 limbs, and those above them stay.
 pub fn complement(limbs: &mut [u32], t: usize, m: u64) -> usize
     requires { (t / 32 + 3 ≤ length limbs.old) × (m ≤ 2 ^ t) }
-    ensures { (value (take result limbs.new) + m ≡ 2 ^ t) × (result ≤ t / 32 + 3) × (0 < result → 0 < get_or limbs.new (result - 1) 0) × (value (take (t / 32 + 3) limbs.new) + m ≡ 2 ^ t) × (drop (t / 32 + 3) limbs.new ≡ drop (t / 32 + 3) limbs.old) }
+    ensures { (value (take result limbs.new) + m ≡ 2 ^ t) × (result ≤ t / 32 + 3) × InUse result limbs.new × (value (take (t / 32 + 3) limbs.new) + m ≡ 2 ^ t) × (drop (t / 32 + 3) limbs.new ≡ drop (t / 32 + 3) limbs.old) }
 {
     let n = lay(limbs, 1, t);
     less(&mut limbs[..n], m);
@@ -79,7 +79,7 @@ pub fn larger(a: usize, b: usize) -> usize
 // above them stay.
 pub fn sum(limbs: &mut [u32], x: u64, s: usize, y: u64, t: usize) -> usize
     requires { max s t / 32 + 3 ≤ length limbs.old }
-    ensures { (value (take result limbs.new) ≡ x * 2 ^ s + y * 2 ^ t) × (result ≤ max s t / 32 + 3) × (0 < result → 0 < get_or limbs.new (result - 1) 0) × (value (take (max s t / 32 + 3) limbs.new) ≡ x * 2 ^ s + y * 2 ^ t) × (drop (max s t / 32 + 3) limbs.new ≡ drop (max s t / 32 + 3) limbs.old) }
+    ensures { (value (take result limbs.new) ≡ x * 2 ^ s + y * 2 ^ t) × (result ≤ max s t / 32 + 3) × InUse result limbs.new × (value (take (max s t / 32 + 3) limbs.new) ≡ x * 2 ^ s + y * 2 ^ t) × (drop (max s t / 32 + 3) limbs.new ≡ drop (max s t / 32 + 3) limbs.old) }
 {
     let n = larger(s, t) / 32 + 3;
     lay_sum(&mut limbs[..n], x, s, y, t);
