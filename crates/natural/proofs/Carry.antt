@@ -13,7 +13,6 @@ use native.Mathlib.Omega.{arith}
 use lib.ListN.{length, take, drop, get_or, set, length-drop, length-set}
 use lib.Seq.{get_or-drop, drop-drop, drop-set-lt, take_all}
 use Rattle.limbs.specs.Value.{value}
-use Rattle.natural.specs.Carries.{Carries}
 use Rattle.limbs.proofs.Value.{weight_next, weight_add, value_next, value_store, value_same, value_split, value_back, part_from}
 
 -- the limbs below i are worked on, those from i on are as at entry: with s the former are m times those at entry, and t
@@ -78,12 +77,12 @@ pub columns_start : (away : Bool) (l : List ℕ) → Columns away l l 0 0 0
 columns_start false l = start l 1 0 0 refl
 columns_start true l = start l 1 0 0 refl
 
-pub columns_again : (away : Bool) {l l₀ : List ℕ} {i : ℕ} (c t x q y t' : ℕ) → Columns away l l₀ i c t → i < length l → Carries away 4294967296 (get_or l i 0) x y c q → t' ≡ t + y * 2 ^ (32 * i)
+pub columns_again : (away : Bool) {l l₀ : List ℕ} {i : ℕ} (c t x q y t' : ℕ) → Columns away l l₀ i c t → i < length l → x + cond away (y + c) (4294967296 * q) ≡ get_or l i 0 + cond away (4294967296 * q) (y + c) → t' ≡ t + y * 2 ^ (32 * i)
     → Columns away (set l i x) l₀ (i + 1) q t'
 columns_again false c t x q y t' v h e f = carried_again c x q y t' v h (e ∙ omega arith) f
-columns_again true c t x q y t' v h e f = borrowed_again c x q y t' v h e f
+columns_again true c t x q y t' v h e f = borrowed_again c x q y t' v h (omega arith) f
 
-pub columns_end : (away : Bool) {l l₀ : List ℕ} {i : ℕ} (c t : ℕ) → Columns away l l₀ i c t → length l ≤ i → Carries away (2 ^ (32 * length l₀)) (value l₀) (value l) t 0 c
+pub columns_end : (away : Bool) {l l₀ : List ℕ} {i : ℕ} (c t : ℕ) → Columns away l l₀ i c t → length l ≤ i → value l + cond away t (c * 2 ^ (32 * length l₀)) ≡ value l₀ + cond away (c * 2 ^ (32 * length l₀)) t
 columns_end false c t v h = omega (arith, carried_end c v h)
 columns_end true c t v h = omega (arith, borrowed_end c v h)
 
@@ -94,10 +93,10 @@ columns_through away l l₀ o i c v e =
     rw (← e, ← f) v
 
 -- nothing is carried any more
-pub columns_stopped : (away : Bool) {l l₀ : List ℕ} {i : ℕ} (c t : ℕ) → Columns away l l₀ i c t → c ≡ 0 → Carries away (2 ^ (32 * length l₀)) (value l₀) (value l) t 0 0
+pub columns_stopped : (away : Bool) {l l₀ : List ℕ} {i : ℕ} (c t : ℕ) → Columns away l l₀ i c t → c ≡ 0 → value l + cond away t (0 * 2 ^ (32 * length l₀)) ≡ value l₀ + cond away (0 * 2 ^ (32 * length l₀)) t
 columns_stopped away {l} {l₀} {i} c t v z = go away v (ap (λ (n : ℕ). n * 2 ^ (32 * i)) z) (value_same l l₀ i v.within v.long v.rest)
   where
-    go : (away : Bool) → Columns away l l₀ i c t → c * 2 ^ (32 * i) ≡ 0 * 2 ^ (32 * i) → value l + value (take i l₀) ≡ value l₀ + value (take i l) → Carries away (2 ^ (32 * length l₀)) (value l₀) (value l) t 0 0
+    go : (away : Bool) → Columns away l l₀ i c t → c * 2 ^ (32 * i) ≡ 0 * 2 ^ (32 * i) → value l + value (take i l₀) ≡ value l₀ + value (take i l) → value l + cond away t (0 * 2 ^ (32 * length l₀)) ≡ value l₀ + cond away (0 * 2 ^ (32 * length l₀)) t
     go false v f e = omega arith
     go true v f e = omega arith
 

@@ -1,3 +1,2 @@
 -- What a reader of this crate must believe: definitions only. Theorems about them stand in proofs/.
 pub mod Ceiling
-pub mod Carries

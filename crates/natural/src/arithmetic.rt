@@ -1,7 +1,6 @@
 // Arithmetic in place: a number of limbs times, plus, less or over a small or another one.
-ghost use Rattle.std.specs.Prelude.{◌≡◌, ℕ, ◌+◌, ◌*◌, ◌^◌, ◌≤◌, ◌<◌, Bool, true, false, length};
+ghost use Rattle.std.specs.Prelude.{◌≡◌, ℕ, ◌+◌, ◌*◌, ◌^◌, ◌≤◌, ◌<◌, Bool, true, false, if◌then◌else◌, length};
 ghost use Rattle.limbs.specs.Value.{value};
-ghost use Rattle.natural.specs.Carries.{Carries};
 
 use limbs::limb::{Digit, add_step, divide_step, multiply_step, shift_step, subtract_step};
 
@@ -18,13 +17,13 @@ pub fn times_add(limbs: &mut [u32], m: u64, more: u64) -> u64
     carry
 }
 
-// What is done to each limb from the lowest up: another one is added, or taken away.
+// What is done to each limb from the lowest up: another one is added, or taken away. A difference is a sum read from the other side.
 trait Column {
     ghost away: { Bool };
 
     fn step(x: u32, y: u32, carry: u32) -> Digit<u32>
         requires { carry ≤ 1 }
-        ensures { Carries away 4294967296 x result.limb y carry result.carry × (result.carry ≤ 1) };
+        ensures { (result.limb + (if away then y + carry else 4294967296 * result.carry) ≡ x + (if away then 4294967296 * result.carry else y + carry)) × (result.carry ≤ 1) };
 }
 
 struct Sum;
@@ -32,7 +31,10 @@ struct Sum;
 impl Column for Sum {
     ghost away = { false };
 
-    fn step(x: u32, y: u32, carry: u32) -> Digit<u32> {
+    fn step(x: u32, y: u32, carry: u32) -> Digit<u32>
+        requires { carry ≤ 1 }
+        ensures { (result.limb + 4294967296 * result.carry ≡ x + (y + carry)) × (result.carry ≤ 1) }
+    {
         add_step(x, y, carry)
     }
 }
@@ -42,7 +44,10 @@ struct Difference;
 impl Column for Difference {
     ghost away = { true };
 
-    fn step(x: u32, y: u32, carry: u32) -> Digit<u32> {
+    fn step(x: u32, y: u32, carry: u32) -> Digit<u32>
+        requires { carry ≤ 1 }
+        ensures { (result.limb + (y + carry) ≡ x + 4294967296 * result.carry) × (result.carry ≤ 1) }
+    {
         subtract_step(x, y, carry)
     }
 }
@@ -51,7 +56,7 @@ impl Column for Difference {
 // limb.
 fn columns<C: Column>(limbs: &mut [u32], other: &[u32]) -> u32
     requires { length other.now ≤ length limbs.old }
-    ensures { Carries C.away (2 ^ (32 * length limbs.old)) (value limbs.old) (value limbs.new) (value other.now) 0 result × (result ≤ 1) }
+    ensures { (value limbs.new + (if C.away then value other.now else result * 2 ^ (32 * length limbs.old)) ≡ value limbs.old + (if C.away then result * 2 ^ (32 * length limbs.old) else value other.now)) × (result ≤ 1) }
 {
     let mut carry = 0;
     for (i, y) in other.iter().enumerate() {
@@ -103,7 +108,10 @@ struct Limb {
 impl Divisor for Limb {
     ghost by = { λ l. l.d };
 
-    fn step(&self, r: u32, x: u32) -> Digit<u32> {
+    fn step(&self, r: u32, x: u32) -> Digit<u32>
+        requires { r < self.now.d }
+        ensures { (r * 4294967296 + x ≡ result.limb * self.now.d + result.carry) × (result.carry < self.now.d) }
+    {
         divide_step(r, x, self.d)
     }
 }
@@ -117,7 +125,10 @@ struct Power {
 impl Divisor for Power {
     ghost by = { λ p. 2 ^ p.s };
 
-    fn step(&self, r: u32, x: u32) -> Digit<u32> {
+    fn step(&self, r: u32, x: u32) -> Digit<u32>
+        requires { r < 2 ^ self.now.s }
+        ensures { (r * 4294967296 + x ≡ result.limb * 2 ^ self.now.s + result.carry) × (result.carry < 2 ^ self.now.s) }
+    {
         shift_step(r, x, self.s)
     }
 }
