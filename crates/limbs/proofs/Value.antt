@@ -6,7 +6,7 @@
 --   part_from, value_front, value_back               a part of a slice, and the slice after a call changed that part
 --   store_two, store_three                           a number of two limbs, or a limb and two, stored
 --   value_below, value_bound                         sizes
---   front_stays, stays_above                         limbs that are not written
+--   front_stays                                      limbs that are not written
 --   value_injective                                  what contracts on `value` say of each limb
 -- What limbs hold is in Held; what a loop does to a value is in Carry and Division of crate natural.
 use mathlib.Core.Path.{◌≡◌, refl, sym, ap, ◌∙◌}
@@ -179,9 +179,3 @@ front_stays l e n r h len m =
     let j : length e + (r - n) ≡ r = omega (arith, length-take-le n l h) in
     let k : n + (r - n) ≡ r = omega arith in
     ap (λ (z : ℕ). drop z (e ++ drop n l)) (sym j) ∙ drop-append-add e (drop n l) (r - n) ∙ drop-drop (r - n) n l ∙ ap (λ (z : ℕ). drop z l) k
-
--- what stays from n on stays from r on
-pub stays_above : (l l₀ : List ℕ) (n r : ℕ) → n ≤ r → drop n l ≡ drop n l₀ → drop r l ≡ drop r l₀
-stays_above l l₀ n r h e =
-    let k : n + (r - n) ≡ r = omega arith in
-    ap (λ (z : ℕ). drop z l) (sym k) ∙ sym (drop-drop (r - n) n l) ∙ ap (λ (z : List ℕ). drop (r - n) z) e ∙ drop-drop (r - n) n l₀ ∙ ap (λ (z : ℕ). drop z l₀) k

@@ -1,6 +1,6 @@
 -- Laws on the loops from the lowest limb up; l is the list so far, l₀ the list at entry.
 --   Worked: Carried, Borrowed         the limbs below i are worked on, with a carry into limb i, or a borrow from it
---   start, carried_again, -end        `times_add`: before the loop, after a turn, and at the end
+--   start, carried_again              `times_add`: before the loop, and after a turn
 --   Columns                           a number is added to the limbs below i, or taken away
 --   columns_start, -again             `columns`: before the loops, and after a turn
 --   columns_through, -end, -stopped   where `other` has no limb more, at the end, and where nothing is carried any more
@@ -63,7 +63,7 @@ whole {l} {l₀} {m} {i} {s} {t} v h =
     let e : i ≡ length l₀ = omega arith in
     (e, rw (take_all i l h, take_all i l₀ (omega arith)) at v.sum)
 
-pub carried_end : {l l₀ : List ℕ} {m i t : ℕ} (c : ℕ) → Carried l l₀ m i c t → length l ≤ i → value l + c * 2 ^ (32 * length l₀) ≡ value l₀ * m + t
+carried_end : {l l₀ : List ℕ} {m i t : ℕ} (c : ℕ) → Carried l l₀ m i c t → length l ≤ i → value l + c * 2 ^ (32 * length l₀) ≡ value l₀ * m + t
 carried_end {l} {l₀} c v h = let e = whole v h in rw e.0 at e.1
 
 borrowed_end : {l l₀ : List ℕ} {i s : ℕ} (b : ℕ) → Borrowed l l₀ i b s → length l ≤ i → value l + s ≡ value l₀ + b * 2 ^ (32 * length l₀)

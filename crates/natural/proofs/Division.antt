@@ -1,11 +1,10 @@
--- Laws on the loops from the top limb down: `divide`, and `shift_down` with d = 2 ^ s; l is the list so far, l₀ the list at entry.
+-- Laws on the loop from the top limb down, `over`, which divides by d; l is the list so far, l₀ the list at entry.
 --   Divided                  the limbs from i on are worked on, with a remainder r of them
 --   divided_start, -again    before the loop, and after a turn
---   divided_end              at the lowest limb
 use mathlib.Core.Path.{◌≡◌, refl, sym, ap, ◌∙◌}
 use mathlib.Core.List.{List}
 use Prim.Native.Nat.{ℕ, zero, suc, ◌+◌, ◌-◌, ◌*◌, ◌≤◌, ◌<◌}
-use native.Mathlib.Nat.{le_refl, not-suc-le-zero}
+use native.Mathlib.Nat.{le_refl}
 use native.Mathlib.Omega.{arith}
 use lib.ListN.{length, take, drop, get_or, set, length-set}
 use lib.Seq.{get_or-take, take-set-le, take-take}
@@ -45,7 +44,3 @@ divided_again {l} {l₀} {d} {r} (suc j) q s v h st =
       whole = turn l l₀ d r j q s v.within v.long v.rest v.whole (rw z at st.0);
       small = st.1;
     })
-
-pub divided_end : {l l₀ : List ℕ} {d r : ℕ} (i : ℕ) → Divided l l₀ d i r → i ≤ 0 → (value l₀ ≡ value l * d + r) × (r < d)
-divided_end zero v h = (v.whole, v.small)
-divided_end (suc i) v h = absurd (not-suc-le-zero h)

@@ -2,6 +2,7 @@
 --   value_zeros              `clear`
 --   laid, lay_done           `lay`: the limbs below are 0, and x * 2 ^ (at % 32) stands above them
 --   lay_stays                `lay`: the limbs that it does not write
+--   worked_on                `complement`, `sum`: what they leave, by what was done to the first limbs
 --   less_done                `less`: nothing is borrowed
 --   add_term_done            `add_term`
 --   term_small, sum_done     `lay_sum`: nothing is carried out
@@ -14,10 +15,11 @@ use lib.ListN.{length, take, drop, set}
 use lib.Pow.{pow_pos, pow-add, pow_mono}
 use lib.Seq.{length_front, drop-set-lt}
 use Rattle.std.specs.Prelude.{replicate}
-use Rattle.limbs.specs.Value.{value}
+use Rattle.limbs.specs.Value.{value, InUse}
 use Rattle.limbs.proofs.Value.{weight_split, value_front, store_three, value_back}
 use Rattle.natural.proofs.Carry.{above, weight_above}
 use Rattle.limbs.proofs.Value.{front_stays}
+use Rattle.limbs.proofs.Held.{use_part}
 
 -- y is a number in the limb where 2 ^ at falls
 pub laid : (y x at : ℕ) → y ≡ x * 2 ^ (at % 32) → y * 2 ^ (32 * (at / 32)) ≡ x * 2 ^ at
@@ -41,6 +43,16 @@ pub lay_stays : (l e : List ℕ) (n y lo hi : ℕ) → n + 3 ≤ length l → le
 lay_stays l e n y lo hi h len =
     drop-set-lt (n + 3) (set (set (e ++ drop n l) n y) (n + 1) lo) (n + 2) hi (omega arith) ∙ drop-set-lt (n + 3) (set (e ++ drop n l) n y) (n + 1) lo (omega arith) ∙ drop-set-lt (n + 3) (e ++ drop n l) n y (omega arith)
     ∙ front_stays l e n (n + 3) (omega arith) len (omega arith)
+
+-- the first n limbs of l became e, and `in_use` counted r of them
+pub worked_on : (l e : List ℕ) (n r : ℕ) → n ≤ length l → length e ≡ length (take n l)
+    → (r ≤ length (take n (e ++ drop n l))) × (value (take r (take n (e ++ drop n l))) ≡ value (take n (e ++ drop n l))) × InUse r (take n (e ++ drop n l))
+    → (value (take r (e ++ drop n l)) ≡ value e) × (r ≤ n) × InUse r (e ++ drop n l) × (value (take n (e ++ drop n l)) ≡ value e) × (drop n (e ++ drop n l) ≡ drop n l)
+worked_on l e n r h len u =
+    let k = length_front l e n len in
+    let p = use_part (e ++ drop n l) n r (omega arith) u in
+    let f = (value_front l e n h len).0 in
+    (p.0 ∙ f, p.1, p.2, f, front_stays l e n n h len (omega arith))
 
 -- nothing is borrowed, where m is not above the number
 pub less_done : (v u m b w lo hi : ℕ) → v < w → m ≤ u → v + value (lo ∷ hi ∷ []) ≡ u + b * w → lo ≡ m % 4294967296 → hi ≡ m / 4294967296 → v + m ≡ u
