@@ -4,7 +4,7 @@
 ghost use Rattle.std.specs.Prelude.{◌≡◌, ◌+◌, ◌*◌, ◌≤◌, ◌<◌, length};
 ghost use Rattle.octets.specs.Bytes.{splice};
 ghost use Rattle.records.specs.Layout.{figure_bytes, trailer, line_of, used_length, most_records, figures_end, record_size, edition};
-ghost use Rattle.records.specs.Buffer.{count_at, broken, written};
+ghost use Rattle.records.specs.Buffer.{count_at, broken, records_in, written};
 
 use octets::{put_bytes, put_u32, put_u64, u32_at, u64_at};
 
@@ -44,6 +44,17 @@ pub fn is_broken(archive: &[u8], used: u64) -> bool
     let records = RECORD_SIZE * n;
     (end != records + TRAILER_SIZE)
         | ((u64_at(archive, end - 16) != records as u64) | (u32_at(archive, end - 4) != EDITION))
+}
+
+// The number of records, where refusal 21 does not hold.
+pub fn records_in(archive: &[u8], used: u64) -> Option<usize>
+    ensures { result ≡ records_in archive.now used }
+{
+    if is_broken(archive, used) {
+        None
+    } else {
+        Some(count_at(archive, used))
+    }
 }
 
 // Writes four figures from `at` on.
