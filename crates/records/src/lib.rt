@@ -79,8 +79,8 @@ pub fn put_trailer(b: &mut [u8], at: usize, n: usize)
 }
 
 // Writes a record behind the n records that are there, and the trailer behind it.
-pub fn put_line(b: &mut [u8], n: usize, case: &[u8], figures: [u64; 4])
-    requires { (length case.now ≡ 64) × (used_length record_size (n + 1) ≤ length b.old) × (n < most_records) }
+pub fn put_line(b: &mut [u8], n: usize, case: &[u8; 64], figures: [u64; 4])
+    requires { (used_length record_size (n + 1) ≤ length b.old) × (n < most_records) }
     ensures { b.new ≡ written b.old n (record { case = case.entry.now; figures = figures }) }
 {
     let at = RECORD_SIZE * n;

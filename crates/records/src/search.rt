@@ -1,27 +1,27 @@
 // Searches over the records. Each record is touched once, with one load for each field that is compared.
 ghost use Rattle.std.specs.Prelude.{◌≡◌, ◌*◌, ◌≤◌, length};
-ghost use Rattle.records.specs.Layout.{first_lines, figures_end, record_size};
-ghost use Rattle.records.specs.Lines.{held, worst_of};
+ghost use Rattle.records.specs.Layout.{first_lines, line_of, figures_end, record_size};
+ghost use Rattle.records.specs.Lines.{same_filing, held, worst_of};
 
 use crate::RECORD_SIZE;
 use octets::{u32_at, u64_at};
 
-// Whether one of n records is the same filing as the case. Dossiers differ sooner than heads, so they are compared first.
-pub fn is_held(archive: &[u8], n: usize, case: &[u8]) -> bool
-    requires { (record_size * n ≤ length archive.now) × (length case.now ≡ 64) }
+// Whether a record is the same filing as a case. Dossiers differ sooner than heads, so they are compared first.
+fn is_same_filing(filed: &[u8; 96], case: &[u8; 64]) -> bool
+    ensures { result ≡ same_filing (line_of filed.now).case case.now }
+{
+    u64_at(filed, 8) == u64_at(case, 8) && u32_at(filed, 0) == u32_at(case, 0)
+}
+
+// Whether one of n records is the same filing as the case.
+pub fn is_held(archive: &[u8], n: usize, case: &[u8; 64]) -> bool
+    requires { record_size * n ≤ length archive.now }
     ensures { result ≡ held (first_lines record_size n archive.now) case.now }
 {
-    let head = u32_at(case, 0);
-    let dossier = u64_at(case, 8);
-    let mut k: usize = 0;
-    while k < n {
-        let at = RECORD_SIZE * k;
-        if (u64_at(archive, at + 8) == dossier) & (u32_at(archive, at) == head) {
-            return true;
-        }
-        k += 1;
-    }
-    false
+    let (records, _) = archive.as_chunks::<RECORD_SIZE>();
+    records[..n]
+        .iter()
+        .any(|record| is_same_filing(record, case))
 }
 
 // The number of the first of n records whose figure is the highest: from each record that is above all before it to the next.
