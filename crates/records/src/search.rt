@@ -1,7 +1,7 @@
 // Searches over the records. Each record is touched once, with one load for each field that is compared.
-ghost use Rattle.std.specs.Prelude.{◌≡◌, ◌*◌, ◌≤◌, length};
-ghost use Rattle.records.specs.Layout.{first_lines, line_of, figures_end, record_size};
-ghost use Rattle.records.specs.Lines.{same_filing, held, worst_of};
+ghost use Rattle.std.specs.Prelude.{◌≡◌, ◌+◌, ◌*◌, ◌≤◌, length};
+ghost use Rattle.records.specs.Layout.{first_lines, line_of, record_at, figures_end, record_size};
+ghost use Rattle.records.specs.Lines.{same_filing, held, figure, worst_of};
 
 use crate::RECORD_SIZE;
 use octets::{u32_at, u64_at};
@@ -24,28 +24,24 @@ pub fn is_held(archive: &[u8], n: usize, case: &[u8; 64]) -> bool
         .any(|record| is_same_filing(record, case))
 }
 
+// A figure of record k.
+fn figure_at(archive: &[u8], width: usize, k: usize, compartment: usize) -> u64
+    requires { (width * k + width ≤ length archive.now) × (figures_end ≤ width) × (1 ≤ compartment) × (compartment ≤ 4) }
+    ensures { result ≡ figure compartment (line_of (record_at width archive.now k)) }
+{
+    u64_at(archive, width * k + (56 + 8 * compartment))
+}
+
 // The number of the first of n records whose figure is the highest: from each record that is above all before it to the next.
 pub fn worst_of(archive: &[u8], width: usize, n: usize, compartment: usize) -> usize
     requires { (width * n ≤ length archive.now) × (figures_end ≤ width) × (1 ≤ compartment) × (compartment ≤ 4) }
     ensures { result ≡ worst_of compartment (first_lines width n archive.now) }
 {
-    if n == 0 {
-        return 0;
-    }
-    let place = 56 + 8 * compartment;
-    let mut best: usize = 0;
-    let mut top = u64_at(archive, place);
-    let mut k: usize = 0;
-    let mut x = top;
-    loop {
-        while x <= top {
-            k += 1;
-            if k == n {
-                return best;
-            }
-            x = u64_at(archive, width * k + place);
-        }
+    let mut best = 0;
+    while let Some(k) = (best + 1..n).find(|&k| {
+        figure_at(archive, width, best, compartment) < figure_at(archive, width, k, compartment)
+    }) {
         best = k;
-        top = x;
     }
+    best
 }
