@@ -10,7 +10,7 @@ use borrow.Author.Tests.{lt-ltb, le-ltb}
 use lib.ListN.{get_or, drop}
 use Rattle.octets.specs.Bytes.{number_at}
 use Rattle.records.specs.Layout.{figures_in, record_at, line_of, first_lines, figures_end}
-use Rattle.records.specs.Lines.{figure, figure_of, outranks, worst_by, worst_of}
+use Rattle.records.specs.Lines.{figure, figure_of, outranks, worst_of}
 use Rattle.records.proofs.RecordLaws.{number_at_drop, number_part, length_first_lines}
 use Rattle.records.proofs.LinesFrom.{line_at}
 use Rattle.records.proofs.Order.{Worst, worst_unique, worst_still, worst_first, worst_over, worst_is, by_figures}
@@ -63,13 +63,6 @@ module _ (w m : ℕ) (b : List ℕ) where
         above_earlier = λ j h. rw (f j (omega (arith, s.there)), f k s.there) (s.above_earlier j h);
       }
 
-  no_lines : {k : ℕ} → k ≤ 0 → k ≡ worst_of m (first_lines w 0 b)
-  unfolding worst_of worst_by first_lines
-  no_lines h = omega arith
-
-  pub scan_end : (n : ℕ) {k : ℕ} → Best k → NoneBetween k n → k ≤ n - 1 → k ≡ worst_of m (first_lines w n b)
+  pub scan_end : (n : ℕ) {k : ℕ} → Best k → NoneBetween k n → k < n → k ≡ worst_of m (first_lines w n b)
   unfolding worst_of
-  scan_end zero s none h = no_lines h
-  scan_end (suc n) {k} s none h =
-      let u = as_lines (worst_still s (omega arith) none) in
-      rw (length_first_lines w (suc n) b) (worst_unique u (worst_is (by_figures (figure_of m (first_lines w (suc n) b))) (suc n) (omega arith)))
+  scan_end n s none h = rw (length_first_lines w n b) (worst_unique (as_lines (worst_still s (omega arith) none)) (worst_is (by_figures (figure_of m (first_lines w n b))) n (omega arith)))

@@ -37,11 +37,17 @@ pub fn worst_of(archive: &[u8], width: usize, n: usize, compartment: usize) -> u
     requires { (width * n ≤ length archive.now) × (figures_end ≤ width) × (1 ≤ compartment) × (compartment ≤ 4) }
     ensures { result ≡ worst_of compartment (first_lines width n archive.now) }
 {
+    if n == 0 {
+        return 0;
+    }
     let mut best = 0;
-    while let Some(k) = (best + 1..n).find(|&k| {
-        figure_at(archive, width, best, compartment) < figure_at(archive, width, k, compartment)
-    }) {
+    loop {
+        let top = figure_at(archive, width, best, compartment);
+        let Some(k) = (best + 1..n)
+            .find(|&k| top < figure_at(archive, width, k, compartment))
+        else {
+            return best;
+        };
         best = k;
     }
-    best
 }
