@@ -6,6 +6,8 @@ ghost use Rattle.octets.specs.Bytes.{splice};
 ghost use Rattle.records.specs.Layout.{figure_bytes, trailer, line_of, used_length, most_records, figures_end, record_size, edition};
 ghost use Rattle.records.specs.Buffer.{count_at, broken, records_in, written};
 
+use std::array;
+
 use octets::{put_bytes, put_u32, put_u64, u32_at, u64_at};
 
 pub mod search;
@@ -62,10 +64,9 @@ pub fn put_figures(b: &mut [u8], at: usize, figures: [u64; 4])
     requires { at + 32 ≤ length b.old }
     ensures { b.new ≡ splice b.old at (figure_bytes figures) }
 {
-    put_u64(b, at, figures[0]);
-    put_u64(b, at + 8, figures[1]);
-    put_u64(b, at + 16, figures[2]);
-    put_u64(b, at + 24, figures[3]);
+    for (k, figure) in figures.iter().enumerate() {
+        put_u64(b, at + 8 * k, *figure);
+    }
 }
 
 // Writes the trailer of n records from `at` on.
@@ -94,10 +95,5 @@ pub fn figures_at(bytes: &[u8]) -> [u64; 4]
     requires { figures_end ≤ length bytes.now }
     ensures { result ≡ (line_of bytes.now).figures }
 {
-    [
-        u64_at(bytes, 64),
-        u64_at(bytes, 72),
-        u64_at(bytes, 80),
-        u64_at(bytes, 88),
-    ]
+    array::from_fn(|k| u64_at(bytes, 64 + 8 * k))
 }
