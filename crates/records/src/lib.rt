@@ -6,9 +6,8 @@ ghost use Rattle.octets.specs.Bytes.{splice};
 ghost use Rattle.records.specs.Layout.{figure_bytes, trailer, line_of, used_length, most_records, figures_end, record_size, edition};
 ghost use Rattle.records.specs.Buffer.{count_at, broken, records_in, written};
 
-use std::array;
-
 use octets::{put_bytes, put_u32, put_u64, u32_at, u64_at};
+use std::array;
 
 pub mod search;
 

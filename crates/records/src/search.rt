@@ -7,7 +7,7 @@ use crate::RECORD_SIZE;
 use octets::{u32_at, u64_at};
 
 // Whether a record is the same filing as a case. Dossiers differ sooner than heads, so they are compared first.
-fn is_same_filing(filed: &[u8; 96], case: &[u8; 64]) -> bool
+fn is_same_filing(filed: &[u8; RECORD_SIZE], case: &[u8; 64]) -> bool
     ensures { result ≡ same_filing (line_of filed.now).case case.now }
 {
     u64_at(filed, 8) == u64_at(case, 8) && u32_at(filed, 0) == u32_at(case, 0)
@@ -43,8 +43,7 @@ pub fn worst_of(archive: &[u8], width: usize, n: usize, compartment: usize) -> u
     let mut best = 0;
     loop {
         let top = figure_at(archive, width, best, compartment);
-        let Some(k) = (best + 1..n)
-            .find(|&k| top < figure_at(archive, width, k, compartment))
+        let Some(k) = (best + 1..n).find(|&k| top < figure_at(archive, width, k, compartment))
         else {
             return best;
         };

@@ -1,6 +1,5 @@
 -- `any` over the records is held over their lines.
-use mathlib.Core.Path.{◌≡◌, ◌∙◌}
-use mathlib.Core.List.{List}
+use mathlib.Core.Path.{◌∙◌}
 use borrow.Author.Rules.{rules}
 use borrow.Author.Tests.{tests}
 use native.Mathlib.Omega.{arith}
