@@ -1,13 +1,14 @@
 -- The worst of the first n numbers by any order on numbers: what that is, `Worst`; that `worst_by` names it, `worst_is`, and that nothing else is it, `worst_unique`.
--- From n numbers to one more: `worst_first`, `worst_pass`, `worst_over`. What an order must be for this: `Ranking`; the order by figures is one: `by_figures`.
+-- From n numbers to one more: `worst_first`, `worst_still`, `worst_over`. What an order must be for this: `Ranking`; the order by figures is one: `by_figures`.
 use mathlib.Core.Path.{◌≡◌, refl, sym, ◌∙◌}
 use mathlib.Core.Bool.{Bool, true, false, cond, false≢true}
-use Prim.Native.Nat.{ℕ, zero, suc, ◌+◌, ◌<◌}
+use Prim.Native.Nat.{ℕ, zero, suc, ◌+◌, ◌≤◌, ◌<◌}
 use native.Mathlib.Nat.{not-suc-le-zero}
 use native.Mathlib.Numerals.{add-one}
 use native.Mathlib.Omega.{arith}
 use borrow.Author.Count.{below_more}
 use borrow.Author.Tests.{lt-ltb, le-ltb, ltb-true, ltb-false}
+use lib.Dec.{ltb}
 use Rattle.records.specs.Lines.{outranks, worst_by}
 
 pub record Worst (R : ℕ → ℕ → Bool) (n k : ℕ) : Type 0 where
@@ -22,9 +23,17 @@ module _ {R : ℕ → ℕ → Bool} where
   pub worst_unique : {n j k : ℕ} → Worst R n j → Worst R n k → j ≡ k
   worst_unique p q = let a = not_earlier p q in let b = not_earlier q p in omega arith
 
-  -- one more that does not outrank it
-  pub worst_pass : {n w : ℕ} → Worst R n w → R n w ≡ false → Worst R (n + 1) w
-  worst_pass {n} {w} p e = record { there = omega (arith, p.there); none_above = below_more (λ j. R j w ≡ false) n p.none_above e; above_earlier = p.above_earlier }
+  -- with more that do not outrank it
+  pub worst_still : {n m w : ℕ} → Worst R n w → n ≤ m → ((j : ℕ) → n ≤ j → j < m → R j w ≡ false) → Worst R m w
+  worst_still {n} {m} {w} p h rest = record {
+    there = omega (arith, p.there);
+    none_above = λ j i. go j i (ltb j n) refl;
+    above_earlier = p.above_earlier;
+  }
+    where
+      go : (j : ℕ) → j < m → (t : Bool) → ltb j n ≡ t → R j w ≡ false
+      go j i true e = p.none_above j (ltb-true j n e)
+      go j i false e = rest j (ltb-false j n e) i
 
 -- ── one more that does
 
@@ -45,7 +54,7 @@ module _ {R : ℕ → ℕ → Bool} (r : Ranking R) where
 
   worst_next : (n w : ℕ) → Worst R n w → (t : Bool) → R n w ≡ t → Worst R (n + 1) (cond t n w)
   worst_next n w p true e = worst_over p e
-  worst_next n w p false e = worst_pass p e
+  worst_next n w p false e = worst_still p (omega arith) (λ j l h. (let z : j ≡ n = omega arith in rw z e))
 
   pub worst_is : (n : ℕ) → 0 < n → Worst R n (worst_by R n)
   unfolding worst_by

@@ -1,21 +1,19 @@
--- Laws of the same filing: by two numbers, `same_numbers`; by the fields that agree, `same_filing_fields`.
+-- Laws of the same filing: of a record by two numbers, `same_numbers`; by the fields that agree, `same_filing_fields`.
 use mathlib.Core.Path.{◌≡◌, refl, ◌∙◌}
 use mathlib.Core.Bool.{Bool, true, false, ◌&&◌, and_comm, and_assoc}
 use mathlib.Core.List.{List, [], ◌∷◌}
 use Prim.Native.Nat.{ℕ, zero, suc, ◌+◌, ◌*◌, ◌≤◌, ◌<◌}
-use native.Mathlib.Nat.{add-zero}
 use native.Mathlib.Omega.{arith}
 use borrow.Author.Tests.{eq-eqb, ne_eqb, eqb-true, eqb-false}
 use lib.Dec.{eqb}
-use lib.ListN.{length, get_or, take, drop, length-drop}
+use lib.ListN.{length, take, drop, length-drop}
 use lib.Seq.{get_or-drop}
 use Rattle.octets.specs.Bytes.{AreBytes, number_of, number_at}
 use Rattle.kinds.specs.Case.{kind_of, row_of, route_of, user_of, dossier_of}
-use Rattle.records.specs.Layout.{no_line, case_size, bytes_at, record_at, line_of, first_lines}
+use Rattle.records.specs.Layout.{case_size, bytes_at, line_of}
 use Rattle.records.specs.Lines.{same_bytes, same_filing}
-use Rattle.records.proofs.RecordLaws.{part_take, part_part}
+use Rattle.records.proofs.RecordLaws.{part_take}
 use Rattle.records.proofs.Writing.{first_four}
-use Rattle.records.proofs.LinesFrom.{record_inside, line_at}
 
 -- ── equal numbers are equal bytes
 
@@ -40,21 +38,14 @@ unfolding number_at
 same_part b c i j k bb bc hb hc =
     same_front k (drop i b) (drop j c) (λ n. rw get_or-drop (bb (i + n))) (λ n. rw get_or-drop (bc (j + n))) (rw length-drop (omega arith)) (rw length-drop (omega arith))
 
--- ── of record k of n records, each as long as the width w
+-- ── of a record, by two numbers read from it and two of the case
 
-case_part : (w k i n : ℕ) (b : List ℕ) → case_size ≤ w → i + n ≤ case_size → bytes_at (line_of (record_at w b k)).case i n ≡ bytes_at b (w * k + i) n
-unfolding line_of
-case_part w k i n b d h = part_take (record_at w b k) i n case_size h ∙ part_part b (w * k) w i n (omega arith)
-
--- by two numbers read from it and two of the case
-pub same_numbers : (w n k : ℕ) (b c : List ℕ) {x y h d : ℕ} → AreBytes b → AreBytes c → case_size ≤ w → k < n → w * n ≤ length b → length c ≡ case_size
-    → x ≡ number_at b (w * k) 4 → h ≡ number_at c 0 4 → y ≡ number_at b (w * k + 8) 8 → d ≡ number_at c 8 8
-    → (eqb y d && eqb x h) ≡ same_filing (get_or (first_lines w n b) k no_line).case c
-unfolding same_filing
-same_numbers w n k b c {x = x₀} {y = y₀} {h = h₀} {d = d₀} bb bc hw hk hb hc x h y d =
-    let i = record_inside w n k hk in
-    and_comm (eqb y₀ d₀) (eqb x₀ h₀)
-    ∙ rw (line_at w n k b hk, case_part w k 0 4 b hw (omega arith), case_part w k 8 8 b hw (omega arith), add-zero, x, h, y, d, same_part b c (w * k) 0 4 bb bc (omega arith) (omega arith), same_part b c (w * k + 8) 8 8 bb bc (omega arith) (omega arith))
+pub same_numbers : (r c : List ℕ) → AreBytes r → AreBytes c → case_size ≤ length r → case_size ≤ length c
+    → (eqb (number_at r 8 8) (number_at c 8 8) && eqb (number_at r 0 4) (number_at c 0 4)) ≡ same_filing (line_of r).case c
+unfolding same_filing line_of
+same_numbers r c br bc hr hc =
+    and_comm (eqb (number_at r 8 8) (number_at c 8 8)) (eqb (number_at r 0 4) (number_at c 0 4))
+    ∙ rw (part_take r 0 4 case_size (omega arith), part_take r 8 8 case_size (omega arith), same_part r c 0 0 4 br bc (omega arith) (omega arith), same_part r c 8 8 8 br bc (omega arith) (omega arith))
 
 -- ── the same filing in the fields of a case
 

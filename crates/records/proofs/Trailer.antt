@@ -1,7 +1,8 @@
 -- What it is that refusal 21 does not hold, as facts on numbers: `Sound`, `sound_facts`, `not_broken`.
 -- A trailer that stands in a buffer, read back: `TrailerRead`, `trailer_read`, `trailer_sound`.
-use mathlib.Core.Path.{◌≡◌, ap, ◌∙◌}
-use mathlib.Core.Bool.{false}
+use mathlib.Core.Path.{◌≡◌, refl, ap, ◌∙◌}
+use Rattle.std.specs.Prelude.{Some, None, if◌then◌else◌}
+use mathlib.Core.Bool.{Bool, true, false}
 use mathlib.Core.List.{List, ◌++◌, append_assoc}
 use Prim.Native.Nat.{ℕ, ◌+◌, ◌-◌, ◌*◌, ◌^◌, ◌≤◌, ◌<◌}
 use native.Mathlib.Omega.{arith}
@@ -11,7 +12,7 @@ use Rattle.octets.specs.Bytes.{bytes_of, number_at}
 use Rattle.octets.proofs.Numbers.{length_bytes_of}
 use Rattle.octets.proofs.Bools.{neither}
 use Rattle.records.specs.Layout.{trailer, trailer_size, used_length, most_records, record_size, edition}
-use Rattle.records.specs.Buffer.{distance_at, count_at, edition_at, broken}
+use Rattle.records.specs.Buffer.{distance_at, count_at, edition_at, broken, records_in}
 use Rattle.records.proofs.RecordLaws.{number_behind}
 
 pub record Sound (b : List ℕ) (u : ℕ) : Type 0 where
@@ -43,6 +44,24 @@ pub not_broken : (b : List ℕ) (u : ℕ) → Sound b u → broken b u ≡ false
 unfolding broken
 not_broken b u s =
     rw (le-ltb _ _ s.inside, le-ltb _ _ s.at_least, le-ltb _ _ s.few, eq-eqb _ _ s.length_is, eq-eqb _ _ s.distance_is, eq-eqb _ _ s.edition_is)
+
+-- ── what the number of records says of the trailer, where one is given and where none is
+
+pub records_in_none : (b : List ℕ) (u : ℕ) → records_in b u ≡ None → broken b u ≡ true
+unfolding records_in
+records_in_none b u e = go (broken b u) refl e
+  where
+    go : (t : Bool) → broken b u ≡ t → (if t then None else Some (count_at b u)) ≡ None → t ≡ true
+    go true f e = refl
+    go false f e = cc
+
+pub records_in_some : (b : List ℕ) (u : ℕ) {n : ℕ} → records_in b u ≡ Some n → (broken b u ≡ false) × (n ≡ count_at b u)
+unfolding records_in
+records_in_some b u {n} e = go (broken b u) refl e
+  where
+    go : (t : Bool) → broken b u ≡ t → (if t then None else Some (count_at b u)) ≡ Some n → (t ≡ false) × (n ≡ count_at b u)
+    go true f e = cc
+    go false f e = (refl, cc)
 
 -- ── a trailer read back, of n records of any width w and edition e
 

@@ -1,18 +1,18 @@
 -- The search for the worst of n records, each as long as the width w, in a buffer b.
--- The figure of record k: `figure_at_lem`. The search from the first record to the last: `Scanned`, `scan_start`, `Looked`, `scan_next`, `scan_end`.
+-- The figure of record k: `figure_in`, `figure_read`. From one record to the next that outranks it: `scan_start`, `scan_next`; where there is none: `scan_end`.
 use mathlib.Core.Path.{◌≡◌, refl, ap, ◌∙◌}
+use mathlib.Core.Bool.{true, false}
 use mathlib.Core.List.{List}
 use Prim.Native.Nat.{ℕ, zero, suc, ◌+◌, ◌*◌, ◌-◌, ◌≤◌, ◌<◌}
 use native.Mathlib.Nat.{mul-suc, le_of_suc-le-suc, not-suc-le-zero}
 use native.Mathlib.Omega.{arith}
-use borrow.Author.Tests.{lt-ltb, le-ltb}
 use lib.ListN.{get_or, drop}
 use Rattle.octets.specs.Bytes.{number_at}
 use Rattle.records.specs.Layout.{figures_in, record_at, line_of, first_lines, figures_end}
 use Rattle.records.specs.Lines.{figure, figure_of, outranks, worst_of}
 use Rattle.records.proofs.RecordLaws.{number_at_drop, number_part, length_first_lines}
 use Rattle.records.proofs.LinesFrom.{line_at}
-use Rattle.records.proofs.Order.{Worst, worst_unique, worst_pass, worst_first, worst_over, worst_is, by_figures}
+use Rattle.records.proofs.Order.{Worst, worst_unique, worst_still, worst_first, worst_over, worst_is, by_figures}
 
 -- ── the figure of a record
 
@@ -24,37 +24,44 @@ figures_in_at (suc m) (suc c) b h =
     let e : 8 * suc c ≡ 8 + 8 * c = omega (arith, mul-suc 8 c) in
     figures_in_at m c (drop 8 b) (le_of_suc-le-suc h) ∙ rw e (number_at_drop b 8 (8 * c) 8)
 
-pub figure_at_lem : (w n m k : ℕ) (b : List ℕ) → figures_end ≤ w → 1 ≤ m → m ≤ 4 → k < n → figure_of m (first_lines w n b) k ≡ number_at b (w * k + (56 + 8 * m)) 8
-unfolding figure line_of
-figure_at_lem w n m k b d p q h =
-    let r = record_at w b k in
-    let e : 64 + 8 * (m - 1) ≡ 56 + 8 * m = omega arith in
-    ap (figure m) (line_at w n k b h)
-    ∙ figures_in_at 4 (m - 1) (drop 64 r) (omega arith)
-    ∙ number_at_drop r 64 (8 * (m - 1)) 8
-    ∙ rw e (number_part b (w * k) w (56 + 8 * m) 8 (omega arith))
+module _ (w m : ℕ) (b : List ℕ) where
+  abbrev pub figure_in : ℕ → ℕ
+  figure_in k = figure m (line_of (record_at w b k))
 
--- ── the search, of any figures by number
+  pub figure_read : (k : ℕ) → figures_end ≤ w → 1 ≤ m → m ≤ 4 → figure_in k ≡ number_at b (w * k + (56 + 8 * m)) 8
+  unfolding figure line_of
+  figure_read k d p q =
+      let r = record_at w b k in
+      let e : 64 + 8 * (m - 1) ≡ 56 + 8 * m = omega arith in
+      figures_in_at 4 (m - 1) (drop 64 r) (omega arith)
+      ∙ number_at_drop r 64 (8 * (m - 1)) 8
+      ∙ rw e (number_part b (w * k) w (56 + 8 * m) 8 (omega arith))
 
--- best is the worst of those before k, with the figure top
-pub record Scanned (f : ℕ → ℕ) (k best top : ℕ) : Type 0 where
-  pub top_is : top ≡ f best
-  pub worst : Worst (outranks f) k best
+  -- ── the search: best is the worst of those up to it
 
--- what is known of those up to k, whose figure is x: k is passed over, or it takes over
-abbrev pub Looked : (f : ℕ → ℕ) (k best top x : ℕ) → Type 0
-Looked f k best top x = (x ≤ top → Scanned f (k + 1) best top) × (top < x → Scanned f (k + 1) k x)
+  abbrev pub Best : ℕ → Type 0
+  Best k = Worst (outranks figure_in) (k + 1) k
 
-module _ (f : ℕ → ℕ) where
-  pub scan_start : {top : ℕ} → top ≡ f 0 → Scanned f 1 0 top
-  scan_start e = record { top_is = e; worst = worst_first (by_figures f) }
+  -- none of those behind k, and before n, outranks it
+  abbrev pub NoneBetween : ℕ → ℕ → Type 0
+  NoneBetween k n = (j : ℕ) → k + 1 ≤ j → j < n → outranks figure_in j k ≡ false
 
-  pub scan_next : {k best top x : ℕ} → Scanned f k best top → x ≡ f k → Looked f k best top x
-  scan_next {k} {best} s e = (
-    λ h. record { top_is = s.top_is; worst = worst_pass s.worst (le-ltb (f best) (f k) (rw (← e, ← s.top_is) h)) },
-    λ h. record { top_is = e; worst = worst_over (by_figures f) s.worst (lt-ltb (f best) (f k) (rw (← e, ← s.top_is) h)) },
-  )
+  pub scan_start : Best 0
+  scan_start = worst_first (by_figures figure_in)
 
-pub scan_end : (w n m : ℕ) (b : List ℕ) {best top : ℕ} → Scanned (figure_of m (first_lines w n b)) n best top → best ≡ worst_of m (first_lines w n b)
-unfolding worst_of
-scan_end w n m b s = rw (length_first_lines w n b) (worst_unique s.worst (worst_is (by_figures (figure_of m (first_lines w n b))) n (omega (arith, s.worst.there))))
+  pub scan_next : {j k : ℕ} → Best k → NoneBetween k j → k + 1 ≤ j → outranks figure_in j k ≡ true → Best j
+  scan_next s none h e = worst_over (by_figures figure_in) (worst_still s h none) e
+
+  -- the same numbers as those of the lines
+  as_lines : {n k : ℕ} → Worst (outranks figure_in) n k → Worst (outranks (figure_of m (first_lines w n b))) n k
+  as_lines {n} {k} s =
+      let f = λ (j : ℕ) (h : j < n). ap (figure m) (line_at w n j b h) in
+      record {
+        there = s.there;
+        none_above = λ j h. rw (f j h, f k s.there) (s.none_above j h);
+        above_earlier = λ j h. rw (f j (omega (arith, s.there)), f k s.there) (s.above_earlier j h);
+      }
+
+  pub scan_end : (n : ℕ) {k : ℕ} → Best k → NoneBetween k n → k < n → k ≡ worst_of m (first_lines w n b)
+  unfolding worst_of
+  scan_end n s none h = rw (length_first_lines w n b) (worst_unique (as_lines (worst_still s (omega arith) none)) (worst_is (by_figures (figure_of m (first_lines w n b))) n (omega arith)))

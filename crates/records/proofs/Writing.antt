@@ -4,11 +4,12 @@
 -- What is read back is in `RecordLaws` and `Trailer`.
 use mathlib.Core.Path.{◌≡◌, refl, sym, ap, ◌∙◌}
 use mathlib.Core.List.{List, [], ◌∷◌, ◌++◌, append_assoc, append-nil}
-use Prim.Native.Nat.{ℕ, ◌+◌, ◌*◌, ◌≤◌}
+use Prim.Native.Nat.{ℕ, ◌+◌, ◌*◌, ◌≤◌, ◌<◌}
 use native.Mathlib.Nat.{mul-suc}
 use native.Mathlib.Omega.{arith}
 use lib.ListN.{length, get_or, take, length-append}
-use lib.Seq.{take_all}
+use lib.Seq.{length-take-le}
+use Rattle.std.proofs.lemmas.List.{take_more}
 use Rattle.octets.specs.Bytes.{bytes_of, splice}
 use Rattle.octets.proofs.Numbers.{length_bytes_of}
 use Rattle.octets.proofs.Splice.{splice_join}
@@ -36,6 +37,11 @@ pub length_trailer : (width edition n : ℕ) → length (trailer width edition n
 unfolding trailer
 length_trailer w e n = rw (length-append, length-append, length_bytes_of, length_bytes_of, length_bytes_of)
 
+figure_bytes_snoc : (xs : List ℕ) (x : ℕ) → figure_bytes (xs ++ (x ∷ [])) ≡ figure_bytes xs ++ bytes_of 8 x
+unfolding figure_bytes
+figure_bytes_snoc [] x = append-nil (bytes_of 8 x)
+figure_bytes_snoc (y ∷ xs) x = rw (figure_bytes_snoc xs x, append_assoc)
+
 -- ── writes
 
 -- n bytes behind the start of a write that is n bytes long
@@ -43,25 +49,13 @@ pub behind : (a : List ℕ) {b c : List ℕ} (at n : ℕ) (vs ws : List ℕ) →
     → at + (n + length ws) ≤ length a → c ≡ splice a at (vs ++ ws)
 behind a at n vs ws e f l h = splice_join a at (at + n) vs ws e f (rw l) (rw l h)
 
-pub figures_written : (a : List ℕ) {b c d e : List ℕ} (at : ℕ) (f : List ℕ) → length f ≡ 4 → at + 32 ≤ length a
-    → b ≡ splice a at (bytes_of 8 (get_or f 0 0)) → c ≡ splice b (at + 8) (bytes_of 8 (get_or f 1 0))
-    → d ≡ splice c (at + 16) (bytes_of 8 (get_or f 2 0)) → e ≡ splice d (at + 24) (bytes_of 8 (get_or f 3 0))
-    → e ≡ splice a at (figure_bytes f)
-unfolding figure_bytes
-figures_written a at f l h p q r s =
-    let W = bytes_of 8 (get_or f 0 0) in
-    let X = bytes_of 8 (get_or f 1 0) in
-    let Y = bytes_of 8 (get_or f 2 0) in
-    let Z = bytes_of 8 (get_or f 3 0) in
-    let w : length W ≡ 8 = length_bytes_of 8 (get_or f 0 0) in
-    let x : length X ≡ 8 = length_bytes_of 8 (get_or f 1 0) in
-    let y : length Y ≡ 8 = length_bytes_of 8 (get_or f 2 0) in
-    let z : length Z ≡ 8 = length_bytes_of 8 (get_or f 3 0) in
-    let q' = behind a at 8 W X p q w (omega arith) in
-    let r' = behind a at 16 (W ++ X) Y q' r (rw (length-append, w, x)) (omega arith) in
-    let s' = behind a at 24 (W ++ X ++ Y) Z r' s (rw (length-append, length-append, w, x, y)) (omega arith) in
-    let g : W ++ X ++ Y ++ Z ≡ figure_bytes (get_or f 0 0 ∷ get_or f 1 0 ∷ get_or f 2 0 ∷ get_or f 3 0 ∷ []) = simp (append_assoc, append-nil) in
-    s' ∙ ap (splice a at) (g ∙ ap figure_bytes (sym (first_four f (omega arith)) ∙ take_all 4 f (omega arith)))
+-- one figure more, behind the first k
+pub figures_written : (a : List ℕ) {b c : List ℕ} (at k : ℕ) (f : List ℕ) → k < length f → at + 8 * length f ≤ length a
+    → b ≡ splice a at (figure_bytes (take k f)) → c ≡ splice b (at + 8 * k) (bytes_of 8 (get_or f k 0)) → c ≡ splice a at (figure_bytes (take (k + 1) f))
+figures_written a at k f l h p q =
+    let n : length (figure_bytes (take k f)) ≡ 8 * k = length_figure_bytes (take k f) ∙ ap (λ (m : ℕ). 8 * m) (length-take-le k f (omega arith)) in
+    behind a at (8 * k) (figure_bytes (take k f)) (bytes_of 8 (get_or f k 0)) p q n (omega (arith, length_bytes_of 8 (get_or f k 0)))
+    ∙ ap (splice a at) (sym (rw (take_more f k 0) (figure_bytes_snoc (take k f) (get_or f k 0))))
 
 pub trailer_written : (a : List ℕ) {b c d : List ℕ} (at n : ℕ) → at + 16 ≤ length a
     → b ≡ splice a at (bytes_of 8 (record_size * n)) → c ≡ splice b (at + 8) (bytes_of 4 n) → d ≡ splice c (at + 12) (bytes_of 4 edition)

@@ -1,6 +1,6 @@
 -- An archive in a buffer b at a used length u: its trailer, when that is broken, the lines that it holds, and one more of them.
 -- Paper 01, 'The archive', and refusal 21 of 'From the state, after those, in this order'.
-use Rattle.std.specs.Prelude.{Bool, not, ◌||◌, List, ◌++◌, ℕ, ◌+◌, ◌-◌, ◌*◌, ltb, eqb, length}
+use Rattle.std.specs.Prelude.{Bool, not, ◌||◌, if◌then◌else◌, Option, Some, None, List, ◌++◌, ℕ, ◌+◌, ◌-◌, ◌*◌, ltb, eqb, length}
 use Rattle.octets.specs.Bytes.{number_at, splice}
 use Rattle.records.specs.Layout.{Line, record_of, trailer, first_lines, trailer_size, used_length, most_records, record_size, edition}
 
@@ -23,6 +23,10 @@ broken b u =
     || (ltb most_records (count_at b u)
     || (not (eqb u (used_length record_size (count_at b u)))
     || (not (eqb (distance_at b u) (record_size * count_at b u)) || not (eqb (edition_at b u) edition)))))
+
+-- How many records the archive has, where refusal 21 does not hold.
+unfoldable pub records_in : List ℕ → ℕ → Option ℕ
+records_in b u = (if broken b u then None else Some (count_at b u))
 
 -- the lines that the archive holds
 abbrev pub lines_in : List ℕ → ℕ → List Line

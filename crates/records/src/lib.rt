@@ -4,9 +4,10 @@
 ghost use Rattle.std.specs.Prelude.{◌≡◌, ◌+◌, ◌*◌, ◌≤◌, ◌<◌, length};
 ghost use Rattle.octets.specs.Bytes.{splice};
 ghost use Rattle.records.specs.Layout.{figure_bytes, trailer, line_of, used_length, most_records, figures_end, record_size, edition};
-ghost use Rattle.records.specs.Buffer.{count_at, broken, written};
+ghost use Rattle.records.specs.Buffer.{count_at, broken, records_in, written};
 
 use octets::{put_bytes, put_u32, put_u64, u32_at, u64_at};
+use std::array;
 
 pub mod search;
 
@@ -30,20 +31,26 @@ pub fn count_at(archive: &[u8], used: u64) -> usize
 pub fn is_broken(archive: &[u8], used: u64) -> bool
     ensures { result ≡ broken archive.now used }
 {
-    if (archive.len() as u64) < used {
-        return true;
-    }
-    if used < TRAILER_SIZE as u64 {
-        return true;
-    }
-    let n = count_at(archive, used);
-    if MOST_RECORDS < n {
+    if (archive.len() as u64) < used || used < TRAILER_SIZE as u64 {
         return true;
     }
     let end = used as usize;
-    let records = RECORD_SIZE * n;
-    (end != records + TRAILER_SIZE)
-        | ((u64_at(archive, end - 16) != records as u64) | (u32_at(archive, end - 4) != EDITION))
+    let n = count_at(archive, used);
+    MOST_RECORDS < n
+        || end != RECORD_SIZE * n + TRAILER_SIZE
+        || u64_at(archive, end - 16) != (RECORD_SIZE * n) as u64
+        || u32_at(archive, end - 4) != EDITION
+}
+
+// The number of records, where refusal 21 does not hold.
+pub fn records_in(archive: &[u8], used: u64) -> Option<usize>
+    ensures { result ≡ records_in archive.now used }
+{
+    if is_broken(archive, used) {
+        None
+    } else {
+        Some(count_at(archive, used))
+    }
 }
 
 // Writes four figures from `at` on.
@@ -51,10 +58,9 @@ pub fn put_figures(b: &mut [u8], at: usize, figures: [u64; 4])
     requires { at + 32 ≤ length b.old }
     ensures { b.new ≡ splice b.old at (figure_bytes figures) }
 {
-    put_u64(b, at, figures[0]);
-    put_u64(b, at + 8, figures[1]);
-    put_u64(b, at + 16, figures[2]);
-    put_u64(b, at + 24, figures[3]);
+    for (k, figure) in figures.iter().enumerate() {
+        put_u64(b, at + 8 * k, *figure);
+    }
 }
 
 // Writes the trailer of n records from `at` on.
@@ -68,8 +74,8 @@ pub fn put_trailer(b: &mut [u8], at: usize, n: usize)
 }
 
 // Writes a record behind the n records that are there, and the trailer behind it.
-pub fn put_line(b: &mut [u8], n: usize, case: &[u8], figures: [u64; 4])
-    requires { (length case.now ≡ 64) × (used_length record_size (n + 1) ≤ length b.old) × (n < most_records) }
+pub fn put_line(b: &mut [u8], n: usize, case: &[u8; 64], figures: [u64; 4])
+    requires { (used_length record_size (n + 1) ≤ length b.old) × (n < most_records) }
     ensures { b.new ≡ written b.old n (record { case = case.entry.now; figures = figures }) }
 {
     let at = RECORD_SIZE * n;
@@ -83,10 +89,5 @@ pub fn figures_at(bytes: &[u8]) -> [u64; 4]
     requires { figures_end ≤ length bytes.now }
     ensures { result ≡ (line_of bytes.now).figures }
 {
-    [
-        u64_at(bytes, 64),
-        u64_at(bytes, 72),
-        u64_at(bytes, 80),
-        u64_at(bytes, 88),
-    ]
+    array::from_fn(|k| u64_at(bytes, 64 + 8 * k))
 }

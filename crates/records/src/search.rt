@@ -1,27 +1,35 @@
 // Searches over the records. Each record is touched once, with one load for each field that is compared.
-ghost use Rattle.std.specs.Prelude.{◌≡◌, ◌*◌, ◌≤◌, length};
-ghost use Rattle.records.specs.Layout.{first_lines, figures_end, record_size};
-ghost use Rattle.records.specs.Lines.{held, worst_of};
+ghost use Rattle.std.specs.Prelude.{◌≡◌, ◌+◌, ◌*◌, ◌≤◌, length};
+ghost use Rattle.records.specs.Layout.{first_lines, line_of, record_at, figures_end, record_size};
+ghost use Rattle.records.specs.Lines.{same_filing, held, figure, worst_of};
 
 use crate::RECORD_SIZE;
 use octets::{u32_at, u64_at};
 
-// Whether one of n records is the same filing as the case. Dossiers differ sooner than heads, so they are compared first.
-pub fn is_held(archive: &[u8], n: usize, case: &[u8]) -> bool
-    requires { (record_size * n ≤ length archive.now) × (length case.now ≡ 64) }
+// Whether a record is the same filing as a case. Dossiers differ sooner than heads, so they are compared first.
+fn is_same_filing(filed: &[u8; RECORD_SIZE], case: &[u8; 64]) -> bool
+    ensures { result ≡ same_filing (line_of filed.now).case case.now }
+{
+    u64_at(filed, 8) == u64_at(case, 8) && u32_at(filed, 0) == u32_at(case, 0)
+}
+
+// Whether one of n records is the same filing as the case.
+pub fn is_held(archive: &[u8], n: usize, case: &[u8; 64]) -> bool
+    requires { record_size * n ≤ length archive.now }
     ensures { result ≡ held (first_lines record_size n archive.now) case.now }
 {
-    let head = u32_at(case, 0);
-    let dossier = u64_at(case, 8);
-    let mut k: usize = 0;
-    while k < n {
-        let at = RECORD_SIZE * k;
-        if (u64_at(archive, at + 8) == dossier) & (u32_at(archive, at) == head) {
-            return true;
-        }
-        k += 1;
-    }
-    false
+    let (records, _) = archive.as_chunks::<RECORD_SIZE>();
+    records[..n]
+        .iter()
+        .any(|record| is_same_filing(record, case))
+}
+
+// A figure of record k.
+fn figure_at(archive: &[u8], width: usize, k: usize, compartment: usize) -> u64
+    requires { (width * k + width ≤ length archive.now) × (figures_end ≤ width) × (1 ≤ compartment) × (compartment ≤ 4) }
+    ensures { result ≡ figure compartment (line_of (record_at width archive.now k)) }
+{
+    u64_at(archive, width * k + (56 + 8 * compartment))
 }
 
 // The number of the first of n records whose figure is the highest: from each record that is above all before it to the next.
@@ -32,20 +40,13 @@ pub fn worst_of(archive: &[u8], width: usize, n: usize, compartment: usize) -> u
     if n == 0 {
         return 0;
     }
-    let place = 56 + 8 * compartment;
-    let mut best: usize = 0;
-    let mut top = u64_at(archive, place);
-    let mut k: usize = 0;
-    let mut x = top;
+    let mut best = 0;
     loop {
-        while x <= top {
-            k += 1;
-            if k == n {
-                return best;
-            }
-            x = u64_at(archive, width * k + place);
-        }
+        let top = figure_at(archive, width, best, compartment);
+        let Some(k) = (best + 1..n).find(|&k| top < figure_at(archive, width, k, compartment))
+        else {
+            return best;
+        };
         best = k;
-        top = x;
     }
 }

@@ -1,7 +1,8 @@
 -- Four reads, at the places where a record has its figures.
-use mathlib.Core.Path.{sym}
+use native.Mathlib.Omega.{arith}
+use Rattle.std.proofs.lemmas.Grind.{common_steps}
 use Rattle.records.proofs.RecordLaws.{line_figures}
 use Rattle.records.proofs.figures_at.Goals as goal
 
 pub returns : goal.returns
-returns c = rw (c.u64_at.ensures, c.u64_at-2.ensures, c.u64_at-3.ensures, c.u64_at-4.ensures) (sym (line_figures _))
+returns c = rw line_figures (grind (arith, common_steps))

@@ -5,4 +5,4 @@ use Rattle.records.proofs.put_line.Goals as goal
 
 pub returns : goal.returns
 returns c =
-    line_written _ _ c.args.case.now c.args.figures c.requires.0 (search rules) c.requires.1 c.put_bytes.ensures c.put_figures.ensures c.put_trailer.ensures
+    line_written _ _ c.args.case.now c.args.figures (search rules) (search rules) c.requires.0 c.put_bytes.ensures c.put_figures.ensures c.put_trailer.ensures
