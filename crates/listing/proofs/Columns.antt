@@ -2,10 +2,10 @@
 --   columns_are, length_columns, columns_read           where a record has them
 --   columns_step, length_columns_step, columns_end      their text, from column i on
 --   column_written                                      one that is written, and bytes behind it
---   milligrams_whole, milligrams_more                   by quotient and remainder
+--   milligrams_are                                      as a quotient rounded up
 use mathlib.Core.Path.{◌≡◌, refl, sym, ap, ◌∙◌}
 use mathlib.Core.List.{List, [], ◌∷◌, ◌++◌}
-use Prim.Native.Nat.{ℕ, ◌+◌, ◌/◌, ◌%◌, ◌≤◌, ◌<◌}
+use Prim.Native.Nat.{ℕ, ◌+◌, ◌/◌, ◌%◌, ◌≤◌, ◌<◌, min}
 use native.Mathlib.Numerals.{add-one}
 use native.Mathlib.Omega.{arith}
 use lib.ListN.{length, get_or, set, take, drop, drop_of_length-le, length-append}
@@ -65,8 +65,5 @@ column_written l {m} at x ws e q h =
 
 -- ── milligrams
 
-pub milligrams_whole : (x : ℕ) → x % 1000 ≡ 0 → x / 1000 ≡ milligrams x
-milligrams_whole x e = sym (ceiling_of x 1000 (x / 1000) (x % 1000) (omega arith) (omega arith) ∙ omega arith)
-
-pub milligrams_more : (x : ℕ) → (x % 1000 ≡ 0 → ⊥) → x / 1000 + 1 ≡ milligrams x
-milligrams_more x e = sym (ceiling_of x 1000 (x / 1000) (x % 1000) (omega arith) (omega arith) ∙ omega arith)
+pub milligrams_are : (x : ℕ) → x / 1000 + min 1 (x % 1000) ≡ milligrams x
+milligrams_are x = sym (ceiling_of x 1000 (x / 1000) (x % 1000) (omega arith) (omega arith))

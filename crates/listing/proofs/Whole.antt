@@ -21,8 +21,10 @@ use Rattle.octets.proofs.Bools.{neither}
 use Rattle.records.specs.Layout.{Line, record_size}
 use Rattle.records.specs.Buffer.{count_at, lines_in}
 use Rattle.records.proofs.Trailer.{sound_facts}
-use Rattle.listing.specs.Listing.{codes, header, refusal, lines_text, most_input, most_output, refused, listing_of, listed, of_listed, lengths, listed_bytes, ReadOf}
-use Rattle.listing.specs.declared.Listed.TheVariants.{Written, Needs}
+use Rattle.std.specs.Prelude.{Ok, Err}
+use Rattle.std.specs.declared.result.Result.{Result}
+use Rattle.listing.specs.declared.TooShort.{TooShort}
+use Rattle.listing.specs.Listing.{codes, header, refusal, lines_text, most_input, most_output, refused, listing_of, too_short, listed, of_listed, lengths, listed_bytes, ReadOf}
 use Rattle.listing.proofs.RecordLines.{lines_at_most}
 
 -- the number of records, with all of the input as used length
@@ -84,14 +86,14 @@ listing_written b o e l f g h =
 -- ── print
 
 pub listed_written : (b o : List ℕ) {n : ℕ} {q : List ℕ} → n ≡ length (listing_of b) → n ≤ length o → q ≡ splice o 0 (listing_of b)
-    → (Written n ≡ listed b (length o)) × (q ≡ listed_bytes b o) × (of_listed (Written n) ≡ lengths b (length o))
+    → let r : Result ℕ TooShort = Ok n in (r ≡ listed b (length o)) × (q ≡ listed_bytes b o) × (of_listed r ≡ lengths b (length o))
 unfolding listed listed_bytes lengths
-listed_written b o e h w = let t = le-leb (length (listing_of b)) (length o) (rw e at h) in rw t (ap Written e, w, rw e)
+listed_written b o e h w = let t = le-leb (length (listing_of b)) (length o) (rw e at h) in rw t (ap Ok e, w, rw e)
 
 pub listed_needs : (b o : List ℕ) {n : ℕ} → n ≡ length (listing_of b) → length o < n
-    → (Needs n ≡ listed b (length o)) × (o ≡ listed_bytes b o) × (of_listed (Needs n) ≡ lengths b (length o))
+    → let r : Result ℕ TooShort = Err (too_short n) in (r ≡ listed b (length o)) × (o ≡ listed_bytes b o) × (of_listed r ≡ lengths b (length o))
 unfolding listed listed_bytes lengths
-listed_needs b o e h = let t = lt-leb (length (listing_of b)) (length o) (rw e at h) in rw t (ap Needs e, refl, rw e)
+listed_needs b o e h = let t = lt-leb (length (listing_of b)) (length o) (rw e at h) in rw t (ap (λ m. Err (too_short m)) e, refl, rw e)
 
 -- ── from a read
 

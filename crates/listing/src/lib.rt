@@ -22,11 +22,10 @@ const HEADER_SIZE: usize = 46;
 
 const REFUSAL_SIZE: usize = 11;
 
-// The length of the listing, and whether it was written.
-#[derive(Clone, Copy)]
-pub enum Listed {
-    Written(u64),
-    Needs(u64),
+// A buffer that does not hold the listing, which has so many bytes.
+#[derive(Clone, Copy, Debug, PartialEq, Eq)]
+pub struct TooShort {
+    pub needed: u64,
 }
 
 fn is_refused(archive: &[u8]) -> bool
@@ -58,16 +57,18 @@ fn put_listing(out: &mut [u8], archive: &[u8])
     lines::put_lines(out, HEADER_SIZE, archive, RECORD_SIZE, n);
 }
 
-// Prints an archive, all of whose bytes are its used length. An output buffer that is too short is left as it was.
-pub fn print(archive: &[u8], out: &mut [u8]) -> Listed
+// Prints an archive, all of whose bytes are its used length, and gives the listing's length. An output buffer that is too short is left as it was.
+pub fn print(archive: &[u8], out: &mut [u8]) -> Result<u64, TooShort>
     ensures { (result ≡ listed archive.now (length out.old)) × (out.new ≡ listed_bytes archive.now out.old) × (of_listed result ≡ lengths archive.now (length out.old)) }
 {
     let needed = listing_length(archive);
     if out.len() < needed {
-        return Listed::Needs(needed as u64);
+        return Err(TooShort {
+            needed: needed as u64,
+        });
     }
     put_listing(out, archive);
-    Listed::Written(needed as u64)
+    Ok(needed as u64)
 }
 
 // Prints a program's input, of which a read left n bytes at the start of a buffer: whatever the whole input is, its listing stands at the start

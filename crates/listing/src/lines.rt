@@ -13,15 +13,10 @@ const SPACE: u8 = 32;
 
 const LINE_FEED: u8 = 10;
 
-// Rounded up by quotient and remainder: a figure near 2^64 and 999 more would not fit.
 fn milligrams(figure: u64) -> u64
     ensures { result ≡ Listing·milligrams figure }
 {
-    if figure % 1000 == 0 {
-        figure / 1000
-    } else {
-        figure / 1000 + 1
-    }
+    figure.div_ceil(1000)
 }
 
 // The columns of a record behind its number.
@@ -46,11 +41,9 @@ fn columns_length(columns: &[u64]) -> usize
     requires { length columns.now ≤ 8 }
     ensures { result ≡ length (columns_text columns.now) }
 {
-    let mut n: usize = 1;
-    let mut i = 0;
-    while i < columns.len() {
-        n += 1 + decimal_length(columns[i]);
-        i += 1;
+    let mut n = 1;
+    for column in columns {
+        n += 1 + decimal_length(*column);
     }
     n
 }
@@ -68,12 +61,10 @@ pub fn lines_length(archive: &[u8], width: usize, n: usize) -> usize
     requires { (width * n ≤ length archive.now) × (figures_end ≤ width) × (n ≤ 682) }
     ensures { result ≡ length (lines_text 0 (first_lines width n archive.now)) }
 {
-    let mut sum: usize = 0;
-    let mut k: usize = 0;
-    while k < n {
+    let mut sum = 0;
+    for k in 0..n {
         let at = width * k;
         sum += line_length(k, &archive[at..at + width]);
-        k += 1;
     }
     sum
 }
@@ -84,11 +75,9 @@ fn put_columns(out: &mut [u8], start: usize, columns: &[u64]) -> usize
     ensures { (result ≡ start + length (columns_text columns.now)) × (out.new ≡ splice out.old start (columns_text columns.now)) }
 {
     let mut at = start;
-    let mut i = 0;
-    while i < columns.len() {
+    for column in columns {
         out[at] = SPACE;
-        at = put_decimal(out, at + 1, columns[i]);
-        i += 1;
+        at = put_decimal(out, at + 1, *column);
     }
     out[at] = LINE_FEED;
     at + 1
@@ -110,10 +99,8 @@ pub fn put_lines(out: &mut [u8], start: usize, archive: &[u8], width: usize, n: 
     ensures { out.new ≡ splice out.old start (lines_text 0 (first_lines width n archive.now)) }
 {
     let mut at = start;
-    let mut k: usize = 0;
-    while k < n {
+    for k in 0..n {
         let from = width * k;
         at = put_line(out, at, k, &archive[from..from + width]);
-        k += 1;
     }
 }

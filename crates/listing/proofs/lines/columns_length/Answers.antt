@@ -12,14 +12,14 @@ digits_few : (x r : ℕ) → x < 2 ^ 64 → r ≡ length (decimal x) → r ≤ 2
 digits_few x r h e = omega (arith, e, decimal_at_most 19 x (omega arith))
 
 pub overflow_add-n : goal.overflow_add-n
-overflow_add-n c = omega (arith, digits_few _ _ (c.type_inv.columns c.loop-i.i).fits c.decimal_length.ensures)
+overflow_add-n c = omega (arith, digits_few _ _ (c.type_inv.columns c.loop-column.column-index).fits c.decimal_length.ensures)
 
-pub overflow_add-n-in-loop-i : goal.overflow_add-n-in-loop-i
-overflow_add-n-in-loop-i c = omega (arith, digits_few _ _ (c.type_inv.columns c.loop-i.i).fits c.decimal_length.ensures)
+pub overflow_add-n-in-loop-column : goal.overflow_add-n-in-loop-column
+overflow_add-n-in-loop-column c = omega (arith, digits_few _ _ (c.type_inv.columns c.loop-column.column-index).fits c.decimal_length.ensures)
 
-pub loop-i-preserved : goal.loop-i-preserved
-loop-i-preserved c =
-    omega (arith, digits_few _ _ (c.type_inv.columns c.loop-i.i).fits c.decimal_length.ensures, length_columns_step c.args.columns.now c.loop-i.i c.loop-i-test.true)
+pub loop-column-preserved : goal.loop-column-preserved
+loop-column-preserved c =
+    omega (arith, digits_few _ _ (c.type_inv.columns c.loop-column.column-index).fits c.decimal_length.ensures, length_columns_step c.args.columns.now c.loop-column.column-index c.loop-column-test.true)
 
 pub returns : goal.returns
-returns c = let l = c.loop-i in omega (arith, ap length (columns_end c.args.columns.now l.i c.loop-i-test.false))
+returns c = let l = c.loop-column in omega (arith, ap length (columns_end c.args.columns.now l.column-index c.loop-column-test.false))

@@ -9,39 +9,39 @@ use Rattle.listing.proofs.Stores.{store_one}
 use Rattle.listing.proofs.Columns.{columns_step, length_columns_step, columns_end, column_written}
 use Rattle.listing.proofs.lines.put_columns.Goals as goal
 
-pub loop-i-init : goal.loop-i-init
-loop-i-init c = (omega arith, refl, refl, refl)
+pub loop-column-init : goal.loop-column-init
+loop-column-init c = (omega arith, refl, refl, refl)
 
 pub bounds-out-at : goal.bounds-out-at
-bounds-out-at c = omega (arith, length_columns_step c.args.columns.now c.loop-i.i c.loop-i-test.true)
+bounds-out-at c = omega (arith, length_columns_step c.args.columns.now c.loop-column.column-index c.loop-column-test.true)
 
 pub overflow_add-at : goal.overflow_add-at
-overflow_add-at c = omega (arith, length_columns_step c.args.columns.now c.loop-i.i c.loop-i-test.true)
+overflow_add-at c = omega (arith, length_columns_step c.args.columns.now c.loop-column.column-index c.loop-column-test.true)
 
 pub put_decimal-at-requires : goal.put_decimal-at-requires
-put_decimal-at-requires c = simp length-set (omega (arith, length_columns_step c.args.columns.now c.loop-i.i c.loop-i-test.true))
+put_decimal-at-requires c = simp length-set (omega (arith, length_columns_step c.args.columns.now c.loop-column.column-index c.loop-column-test.true))
 
-pub loop-i-preserved : goal.loop-i-preserved
-loop-i-preserved c =
-    let l = c.loop-i in
+pub loop-column-preserved : goal.loop-column-preserved
+loop-column-preserved c =
+    let l = c.loop-column in
     let a = c.args in
-    let m = length_columns_step a.columns.now l.i c.loop-i-test.true in
-    let s = columns_step a.columns.now l.i c.loop-i-test.true in
-    let w = column_written l.out l.at _ (columns_text (drop (l.i + 1) a.columns.now)) c.put_decimal-at.ensures.1 c.put_decimal-at.ensures.0 (omega arith) in
+    let m = length_columns_step a.columns.now l.column-index c.loop-column-test.true in
+    let s = columns_step a.columns.now l.column-index c.loop-column-test.true in
+    let w = column_written l.out l.at _ (columns_text (drop (l.column-index + 1) a.columns.now)) c.put_decimal-at.ensures.1 c.put_decimal-at.ensures.0 (omega arith) in
     (omega arith, c.put_decimal-at.auto.out ∙ simp length-set l.invariant.1, omega (arith, c.put_decimal-at.ensures.0), w ∙ ap (splice l.out l.at) (sym s) ∙ l.invariant.3)
 
 pub bounds-out-at-2 : goal.bounds-out-at-2
-bounds-out-at-2 c = omega (arith, ap length (columns_end c.args.columns.now c.loop-i.i c.loop-i-test.false))
+bounds-out-at-2 c = omega (arith, ap length (columns_end c.args.columns.now c.loop-column.column-index c.loop-column-test.false))
 
 pub overflow_add-result : goal.overflow_add-result
-overflow_add-result c = omega (arith, ap length (columns_end c.args.columns.now c.loop-i.i c.loop-i-test.false))
+overflow_add-result c = omega (arith, ap length (columns_end c.args.columns.now c.loop-column.column-index c.loop-column-test.false))
 
 pub shape_of-out : goal.shape_of-out
-shape_of-out c = simp length-set c.loop-i.invariant.1
+shape_of-out c = simp length-set c.loop-column.invariant.1
 
 pub returns : goal.returns
 returns c =
-    let l = c.loop-i in
-    let none_left = columns_end c.args.columns.now l.i c.loop-i-test.false in
+    let l = c.loop-column in
+    let none_left = columns_end c.args.columns.now l.column-index c.loop-column-test.false in
     let n = ap length none_left in
     (omega arith, store_one l.out l.at line_feed (omega arith) ∙ ap (splice l.out l.at) (sym none_left) ∙ l.invariant.3)

@@ -1,6 +1,6 @@
 -- The invariant: the lines from record k on, over the bytes as they are, make the bytes that are asked.
 use mathlib.Core.Path.{◌≡◌}
-use Prim.Native.Nat.{◌+◌, ◌-◌, ◌≤◌}
+use Prim.Native.Nat.{◌+◌, ◌≤◌}
 use lib.ListN.{length}
 use Rattle.octets.specs.Bytes.{splice}
 use Rattle.records.specs.Layout.{first_lines}
@@ -13,6 +13,3 @@ invariant-loop-k l =
     let all = lines_text 0 (first_lines l.width l.n l.archive) in
     let rest = lines_from l.width l.n l.archive l.k in
     (l.k ≤ l.n) × (length l.out ≡ length l.initial.out) × (l.at + length rest ≡ l.start + length all) × (splice l.out l.at rest ≡ splice l.initial.out l.start all)
-
-abbrev pub decreases-loop-k : goal.decreases-loop-k
-decreases-loop-k l = l.n - l.k
