@@ -3,7 +3,7 @@
 --   chunk_lines, lines_step, lines_end              of records that are parts of an archive: their lines, and those from record k on
 --   take_bytes, line_at_most, lines_at_most         bounds on lengths, of records that are bytes
 -- What a line's columns are is in `Columns`.
-use mathlib.Core.Path.{◌≡◌, refl, ap, ◌∙◌}
+use mathlib.Core.Path.{◌≡◌, refl, sym, ap, ◌∙◌}
 use mathlib.Core.List.{List, [], ◌∷◌, ◌++◌, map}
 use Prim.Native.Nat.{ℕ, zero, suc, ◌+◌, ◌*◌, ◌^◌, ◌≤◌, ◌<◌}
 use native.Mathlib.Numerals.{add-one}
@@ -34,10 +34,12 @@ chunk_lines w zero b = refl
 chunk_lines w (suc n) b = ap (λ (ls : List Line). line_of (take w b) ∷ ls) (chunk_lines w n (drop w b))
 
 -- the lines from record k on
-pub lines_step : (rs : List (List ℕ)) (k : ℕ) → k < length rs
-    → lines_text k (drop k (map line_of rs)) ≡ line_text k (line_of (get_or rs k [])) ++ lines_text (k + 1) (drop (k + 1) (map line_of rs))
+pub lines_step : (rs : List (List ℕ)) (k : ℕ) (r : List ℕ) → k < length rs → r ≡ get_or rs k r
+    → lines_text k (drop k (map line_of rs)) ≡ line_text k (line_of r) ++ lines_text (k + 1) (drop (k + 1) (map line_of rs))
 unfolding lines_text
-lines_step rs k h = rw (drop-cons (map line_of rs) k (line_of []) (rw length-map h), add-one, get_or-map line_of rs k []) refl
+lines_step rs k r h e =
+    let first : get_or (map line_of rs) k (line_of r) ≡ line_of r = get_or-map line_of rs k r ∙ ap line_of (sym e) in
+    rw (drop-cons (map line_of rs) k (line_of r) (rw length-map h), add-one, first) refl
 
 pub lines_end : (rs : List (List ℕ)) (k : ℕ) → length rs ≤ k → lines_text k (drop k (map line_of rs)) ≡ []
 unfolding lines_text

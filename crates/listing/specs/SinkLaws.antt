@@ -1,4 +1,4 @@
--- The two sinks keep the laws.
+-- The two sinks keep the laws: what the code gives as `laws`.
 use mathlib.Core.Path.{ap, refl}
 use Prim.Native.Nat.{ℕ}
 use native.Mathlib.Nat.{add-zero, add_assoc}

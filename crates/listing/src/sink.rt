@@ -34,7 +34,10 @@ impl Sink for Count {
 
     ghost laws = { count_laws };
 
-    fn put(&mut self, bytes: &[u8]) {
+    fn put(&mut self, bytes: &[u8])
+        requires { count_takes self.old (length bytes.now) }
+        ensures { self.new ≡ counted self.old bytes.now }
+    {
         self.bytes += bytes.len();
     }
 }
@@ -53,7 +56,10 @@ impl<'a> Sink for Buffer<'a> {
 
     ghost laws = { buffer_laws };
 
-    fn put(&mut self, bytes: &[u8]) {
+    fn put(&mut self, bytes: &[u8])
+        requires { buffer_takes self.old (length bytes.now) }
+        ensures { self.new ≡ written self.old bytes.now }
+    {
         put_bytes(self.out, self.at, bytes);
         self.at += bytes.len();
     }

@@ -1,5 +1,6 @@
 -- The listing by cases: the refusal, or the header and the lines behind it.
 use mathlib.Core.Path.{refl, sym, ◌∙◌}
+use native.Mathlib.Omega.{arith}
 use Rattle.listing.specs.Listing.{codes, header, refusal}
 use Rattle.listing.proofs.Sinks.{all_left, first_fits, others_left, last_fits, all_put}
 use Rattle.listing.proofs.Whole.{listing_refused, listing_records}
@@ -21,7 +22,9 @@ put-requires-2 g c =
 pub put_lines-requires : goal.put_lines-requires
 unfolding codes header
 put_lines-requires g c =
-    (others_left g.met.S.Sink.laws (all_left g.met.S.Sink.laws c.args.to.now _ c.requires) header _ (listing_records _ (sym c.is_refused.ensures ∙ c.if-is_refused.false) c.as_chunks.ensures.front) c.put-2.ensures).room
+    let w = g.met.S.Sink.laws in
+    let accepted = sym c.is_refused.ensures ∙ c.if-is_refused.false in
+    (omega arith, (omega arith, (others_left w (all_left w c.args.to.now _ c.requires) header _ (listing_records _ accepted c.as_chunks.ensures.front) c.put-2.ensures).room))
 
 pub returns : goal.returns
 unfolding codes header
