@@ -1,5 +1,5 @@
 // Numbers as decimal text.
-ghost use Rattle.std.specs.Prelude.{◌≡◌, ◌≤◌, length};
+ghost use Rattle.std.specs.Prelude.{◌≡◌, length};
 ghost use Rattle.listing.specs.Decimal.{decimal};
 
 use crate::sink::Sink;
@@ -15,7 +15,7 @@ pub fn put_decimal<S: Sink>(to: &mut S, x: u64)
     let mut digits = [0; MOST_DIGITS];
     let mut rest = x;
     for place in (0..MOST_DIGITS).rev() {
-        digits[place] = 48 + (rest % 10) as u8;
+        digits[place] = b'0' + (rest % 10) as u8;
         rest /= 10;
         if rest == 0 {
             to.put(&digits[place..]);

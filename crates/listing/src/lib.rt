@@ -54,7 +54,7 @@ fn listing_length(archive: &[u8]) -> usize
 }
 
 // Writes the listing at the start of a buffer that holds it, and gives its length.
-fn write_listing(out: &mut [u8], archive: &[u8]) -> usize
+fn write_at_start(out: &mut [u8], archive: &[u8]) -> usize
     requires { length (listing_of archive.now) ≤ length out.old }
     ensures { (result ≡ length (listing_of archive.now)) × (out.new ≡ splice out.old 0 (listing_of archive.now)) }
 {
@@ -73,7 +73,7 @@ pub fn print(archive: &[u8], out: &mut [u8]) -> Result<u64, TooShort>
             needed: needed as u64,
         });
     }
-    write_listing(out, archive);
+    write_at_start(out, archive);
     Ok(needed as u64)
 }
 
@@ -84,5 +84,5 @@ pub fn print_input(input: &[u8], n: usize, out: &mut [u8]) -> usize
     requires { (most_input < length input.now) × (n ≤ length input.now) × (most_output ≤ length out.old) }
     ensures { (whole : List ℕ) → ReadOf input.now n whole → (result ≡ length (listing_of whole)) × (out.new ≡ splice out.old 0 (listing_of whole)) }
 {
-    write_listing(out, &input[..n])
+    write_at_start(out, &input[..n])
 }

@@ -5,10 +5,16 @@ use Rattle.listing.proofs.RecordLines.{line_is}
 use Rattle.listing.proofs.lines.put_line.Goals as goal
 
 pub put_decimal-requires : goal.put_decimal-requires
-put_decimal-requires g c = first_fits g.met.S.Sink.laws (all_left g.met.S.Sink.laws _ _ c.requires.room) _ _ (line_is _ _ refl)
+put_decimal-requires g c =
+    let w = g.met.S.Sink.laws in
+    first_fits w (all_left w _ _ c.requires.room) _ _ (line_is _ _ refl)
 
 pub put_columns-requires : goal.put_columns-requires
-put_columns-requires g c = (others_left g.met.S.Sink.laws (all_left g.met.S.Sink.laws _ _ c.requires.room) _ _ (line_is _ _ c.columns_of.ensures) c.put_decimal.ensures).room
+put_columns-requires g c =
+    let w = g.met.S.Sink.laws in
+    (others_left w (all_left w _ _ c.requires.room) _ _ (line_is _ _ c.columns_of.ensures) c.put_decimal.ensures).room
 
 pub returns : goal.returns
-returns g c = all_put g.met.S.Sink.laws (others_left g.met.S.Sink.laws (all_left g.met.S.Sink.laws _ _ c.requires.room) _ _ (line_is _ _ c.columns_of.ensures) c.put_decimal.ensures) refl c.put_columns.ensures
+returns g c =
+    let w = g.met.S.Sink.laws in
+    all_put w (others_left w (all_left w _ _ c.requires.room) _ _ (line_is _ _ c.columns_of.ensures) c.put_decimal.ensures) refl c.put_columns.ensures

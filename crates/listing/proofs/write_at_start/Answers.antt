@@ -2,7 +2,7 @@
 use mathlib.Core.Path.{refl}
 use borrow.Author.Rules.{rules}
 use Rattle.listing.proofs.Sinks.{written_from_start}
-use Rattle.listing.proofs.write_listing.Goals as goal
+use Rattle.listing.proofs.write_at_start.Goals as goal
 
 pub returns : goal.returns
 returns c =
