@@ -10,7 +10,8 @@ use listing::{MOST_INPUT, MOST_OUTPUT, print_input};
 use std::io;
 use std::io::{Read, Write};
 
-// Reads until the buffer is full or the input ends, and gives how many bytes it put at the buffer's start.
+// Reads until the buffer is full or the input ends, and gives how many bytes it put at the buffer's start. The library's `read_to_end` wants a
+// `Vec`, which is on the heap, and its `read_exact` fails where the input is shorter than the buffer.
 fn read_full<R: Read>(from: &mut R, buffer: &mut [u8]) -> io::Result<usize>
     ensures inside { IfOk result (λ n. n ≤ length buffer.new) }
     ensures whole { IfOk result (λ n. IfSome (R.remaining from.old) (λ whole. ReadOf buffer.new n whole)) }

@@ -1,24 +1,21 @@
 -- Laws of a line's columns.
---   columns_are, length_columns, columns_read           where a record has them
---   columns_step, length_columns_step, columns_end      their text, from column i on
---   column_written                                      one that is written, and bytes behind it
---   milligrams_whole, milligrams_more                   by quotient and remainder
-use mathlib.Core.Path.{◌≡◌, refl, sym, ap, ◌∙◌}
+--   columns_are, columns_read           where a record has them
+--   columns_step, columns_end           their text, from column i on
+--   milligrams_are                      as a quotient rounded up
+use mathlib.Core.Path.{◌≡◌, refl, sym, ◌∙◌}
 use mathlib.Core.List.{List, [], ◌∷◌, ◌++◌}
-use Prim.Native.Nat.{ℕ, ◌+◌, ◌/◌, ◌%◌, ◌≤◌, ◌<◌}
+use Prim.Native.Nat.{ℕ, ◌+◌, ◌/◌, ◌%◌, ◌≤◌, ◌<◌, min}
 use native.Mathlib.Numerals.{add-one}
 use native.Mathlib.Omega.{arith}
-use lib.ListN.{length, get_or, set, take, drop, drop_of_length-le, length-append}
+use lib.ListN.{length, get_or, take, drop, drop_of_length-le}
 use lib.Seq.{drop-cons, get_or-take}
 use Rattle.natural.proofs.Ceiling.{ceiling_of}
-use Rattle.octets.specs.Bytes.{number_at, splice}
+use Rattle.octets.specs.Bytes.{number_at}
 use Rattle.octets.proofs.Numbers.{number_at_one}
-use Rattle.octets.proofs.Splice.{splice_join}
 use Rattle.records.specs.Layout.{line_of}
 use Rattle.records.proofs.RecordLaws.{number_part, line_figures}
 use Rattle.listing.specs.Decimal.{decimal}
 use Rattle.listing.specs.Listing.{space, line_feed, milligrams, columns_of, columns_text}
-use Rattle.listing.proofs.Stores.{store_one}
 
 -- ── of a record
 
@@ -32,9 +29,6 @@ pub columns_are : (r : List ℕ)
 unfolding columns_of line_of
 columns_are r = rw (line_figures r, number_part r 0 64 8 8 (omega arith), byte_at r 0 (omega arith), byte_at r 1 (omega arith), byte_at r 2 (omega arith))
 
-pub length_columns : {xs : List ℕ} (r : List ℕ) → xs ≡ columns_of (line_of r) → length xs ≡ 8
-length_columns r e = ap length (e ∙ columns_are r)
-
 -- from the columns that are read
 pub columns_read : (r f : List ℕ) {d k w t a b e g : ℕ} → f ≡ (line_of r).figures → d ≡ number_at r 8 8 → k ≡ number_at r 0 1 → w ≡ number_at r 1 1 → t ≡ number_at r 2 1
     → a ≡ milligrams (get_or f 0 0) → b ≡ milligrams (get_or f 1 0) → e ≡ milligrams (get_or f 2 0) → g ≡ milligrams (get_or f 3 0)
@@ -43,30 +37,15 @@ columns_read r f h d k w t a b e g = rw (d, k, w, t, a, b, e, g, h ∙ line_figu
 
 -- ── text
 
-pub columns_step : (xs : List ℕ) (i : ℕ) → i < length xs → columns_text (drop i xs) ≡ space ∷ decimal (get_or xs i 0) ++ columns_text (drop (i + 1) xs)
+pub columns_step : (xs : List ℕ) (i : ℕ) → i < length xs → columns_text (drop i xs) ≡ (space ∷ []) ++ (decimal (get_or xs i 0) ++ columns_text (drop (i + 1) xs))
 unfolding columns_text
-columns_step xs i h = rw (drop-cons xs i 0 h, add-one)
-
-pub length_columns_step : (xs : List ℕ) (i : ℕ) → i < length xs
-    → length (columns_text (drop i xs)) ≡ 1 + length (decimal (get_or xs i 0)) + length (columns_text (drop (i + 1) xs))
-length_columns_step xs i h =
-    ap length (columns_step xs i h) ∙ omega (arith, length-append (decimal (get_or xs i 0)) (columns_text (drop (i + 1) xs)))
+columns_step xs i h = rw (drop-cons xs i 0 h, add-one) refl
 
 pub columns_end : (xs : List ℕ) (i : ℕ) → length xs ≤ i → columns_text (drop i xs) ≡ line_feed ∷ []
 unfolding columns_text
 columns_end xs i h = rw (drop_of_length-le xs h)
 
--- a column written behind a space, and bytes behind it
-pub column_written : (l : List ℕ) {m : List ℕ} (at x : ℕ) {p : ℕ} (ws : List ℕ) → m ≡ splice (set l at space) (at + 1) (decimal x) → p ≡ at + 1 + length (decimal x)
-    → at + (1 + length (decimal x) + length ws) ≤ length l → splice m p ws ≡ splice l at (space ∷ decimal x ++ ws)
-column_written l {m} at x ws e q h =
-    let s : m ≡ splice l at (space ∷ decimal x) = splice_join l at (at + 1) (space ∷ []) (decimal x) (store_one l at space (omega arith)) e refl (omega arith) in
-    splice_join l at _ (space ∷ decimal x) ws s refl (q ∙ omega arith) (omega arith)
-
 -- ── milligrams
 
-pub milligrams_whole : (x : ℕ) → x % 1000 ≡ 0 → x / 1000 ≡ milligrams x
-milligrams_whole x e = sym (ceiling_of x 1000 (x / 1000) (x % 1000) (omega arith) (omega arith) ∙ omega arith)
-
-pub milligrams_more : (x : ℕ) → (x % 1000 ≡ 0 → ⊥) → x / 1000 + 1 ≡ milligrams x
-milligrams_more x e = sym (ceiling_of x 1000 (x / 1000) (x % 1000) (omega arith) (omega arith) ∙ omega arith)
+pub milligrams_are : (x : ℕ) → x / 1000 + min 1 (x % 1000) ≡ milligrams x
+milligrams_are x = sym (ceiling_of x 1000 (x / 1000) (x % 1000) (omega arith) (omega arith))

@@ -3,6 +3,7 @@ pub mod Digits
 pub mod OnlyDecimal
 pub mod DecimalText
 pub mod Stores
+pub mod Sinks
 pub mod Columns
 pub mod RecordLines
 pub mod Whole

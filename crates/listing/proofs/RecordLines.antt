@@ -1,21 +1,20 @@
 -- Laws of the lines of records.
---   length_line, line_written                              a line: its number, then its columns
---   record_part, length_record                              record k as a part of the archive
---   lines_from, lines_step, length_lines_step, no_lines     the lines from record k on
---   take_bytes, line_at_most, lines_at_most                bounds on lengths, of records that are bytes
+--   line_is                                         a line: its number, then its columns
+--   chunk_lines, lines_step, lines_end              of records that are parts of an archive: their lines, and those from record k on
+--   take_bytes, line_at_most, lines_at_most         bounds on lengths, of records that are bytes
 -- What a line's columns are is in `Columns`.
-use mathlib.Core.Path.{◌≡◌, ap, ◌∙◌}
-use mathlib.Core.List.{List, [], ◌∷◌, ◌++◌}
-use Prim.Native.Nat.{ℕ, zero, suc, ◌+◌, ◌*◌, ◌-◌, ◌^◌, ◌≤◌, ◌<◌}
+use mathlib.Core.Path.{◌≡◌, refl, sym, ap, ◌∙◌}
+use mathlib.Core.List.{List, [], ◌∷◌, ◌++◌, map}
+use Prim.Native.Nat.{ℕ, zero, suc, ◌+◌, ◌*◌, ◌^◌, ◌≤◌, ◌<◌}
+use native.Mathlib.Numerals.{add-one}
 use native.Mathlib.Omega.{arith}
-use lib.ListN.{length, take, drop, length-append, length-drop}
-use lib.Seq.{get_or-drop, length-take-le}
+use lib.ListN.{length, get_or, take, drop, drop_of_length-le, length-append, length-map, get_or-map}
+use lib.Seq.{drop-cons, get_or-drop}
+use Rattle.std.specs.Simd.{first_chunks}
 use Rattle.natural.proofs.Ceiling.{ceiling_at_most}
-use Rattle.octets.specs.Bytes.{AreBytes, number_at, splice}
+use Rattle.octets.specs.Bytes.{AreBytes, number_at}
 use Rattle.octets.proofs.Numbers.{number_at_small}
-use Rattle.octets.proofs.Splice.{splice_join}
 use Rattle.records.specs.Layout.{Line, line_of, first_lines}
-use Rattle.records.proofs.LinesFrom.{lines_cons, lines_end}
 use Rattle.listing.specs.Decimal.{decimal}
 use Rattle.listing.specs.Listing.{milligrams, columns_of, columns_text, line_text, lines_text}
 use Rattle.listing.proofs.DecimalText.{decimal_at_most}
@@ -23,42 +22,28 @@ use Rattle.listing.proofs.Columns.{columns_are}
 
 -- ── a line
 
-pub length_line : (k : ℕ) (l : Line) → length (line_text k l) ≡ length (decimal k) + length (columns_text (columns_of l))
+pub line_is : (k : ℕ) (l : Line) {xs : List ℕ} → xs ≡ columns_of l → line_text k l ≡ decimal k ++ columns_text xs
 unfolding line_text
-length_line k l = length-append (decimal k) (columns_text (columns_of l))
+line_is k l e = rw e refl
 
-pub line_written : (a : List ℕ) {b c xs : List ℕ} (at k : ℕ) {p : ℕ} (l : Line) → b ≡ splice a at (decimal k) → c ≡ splice b p (columns_text xs) → xs ≡ columns_of l
-    → p ≡ at + length (decimal k) → at + length (line_text k l) ≤ length a → c ≡ splice a at (line_text k l)
-unfolding line_text
-line_written a at k l e f x q h =
-    splice_join a at _ (decimal k) (columns_text (columns_of l)) e (rw x at f) q (omega (arith, length_line k l))
+-- ── of records, each as a part of an archive
 
--- ── of n records, each as long as the width w, in a buffer b
-
--- record k, as a part from a start to an end has it
-abbrev pub record_part : ℕ → List ℕ → ℕ → List ℕ
-record_part w b k = take (w * k + w - w * k) (drop (w * k) b)
-
-part_size : (w k : ℕ) → w * k + w - w * k ≡ w
-part_size w k = omega arith
-
-pub length_record : (w k : ℕ) (b : List ℕ) → w * k + w ≤ length b → length (record_part w b k) ≡ w
-length_record w k b h = rw (part_size w k) (length-take-le w (drop (w * k) b) (rw length-drop (omega arith)))
+pub chunk_lines : (w n : ℕ) (b : List ℕ) → map line_of (first_chunks w n b) ≡ first_lines w n b
+unfolding first_lines
+chunk_lines w zero b = refl
+chunk_lines w (suc n) b = ap (λ (ls : List Line). line_of (take w b) ∷ ls) (chunk_lines w n (drop w b))
 
 -- the lines from record k on
-abbrev pub lines_from : ℕ → ℕ → List ℕ → ℕ → List ℕ
-lines_from w n b k = lines_text k (drop k (first_lines w n b))
-
-pub lines_step : (w n k : ℕ) (b : List ℕ) → k < n → lines_from w n b k ≡ line_text k (line_of (record_part w b k)) ++ lines_from w n b (k + 1)
+pub lines_step : (rs : List (List ℕ)) (k : ℕ) (r : List ℕ) → k < length rs → r ≡ get_or rs k r
+    → lines_text k (drop k (map line_of rs)) ≡ line_text k (line_of r) ++ lines_text (k + 1) (drop (k + 1) (map line_of rs))
 unfolding lines_text
-lines_step w n k b h = rw (part_size w k, lines_cons w n k b h)
+lines_step rs k r h e =
+    let first : get_or (map line_of rs) k (line_of r) ≡ line_of r = get_or-map line_of rs k r ∙ ap line_of (sym e) in
+    rw (drop-cons (map line_of rs) k (line_of r) (rw length-map h), add-one, first) refl
 
-pub length_lines_step : (w n k : ℕ) (b : List ℕ) → k < n → length (lines_from w n b k) ≡ length (line_text k (line_of (record_part w b k))) + length (lines_from w n b (k + 1))
-length_lines_step w n k b h = ap length (lines_step w n k b h) ∙ length-append (line_text k (line_of (record_part w b k))) (lines_from w n b (k + 1))
-
-pub no_lines : (w n k : ℕ) (b : List ℕ) → n ≤ k → lines_from w n b k ≡ []
+pub lines_end : (rs : List (List ℕ)) (k : ℕ) → length rs ≤ k → lines_text k (drop k (map line_of rs)) ≡ []
 unfolding lines_text
-no_lines w n k b h = rw (lines_end w n k b h)
+lines_end rs k h = rw (drop_of_length-le (map line_of rs) {i = k} (rw length-map h))
 
 -- ── bounds
 
@@ -96,7 +81,8 @@ line_at_most r k h g =
     let dossier : length (decimal (number_at r 8 8)) ≤ 20 = decimal_at_most 19 (number_at r 8 8) (omega (arith, number_at_small r 8 8 h)) in
     let figures = column_more _ 17 55 _ (figure 64) (column_more _ 17 37 _ (figure 72) (column_more _ 17 19 _ (figure 80) (column_more _ 17 1 _ (figure 88) line_feed_one))) in
     let columns = column_more _ 20 85 _ dossier (column_more _ 3 81 _ (byte 0) (column_more _ 3 77 _ (byte 1) (column_more _ 3 73 _ (byte 2) figures))) in
-    omega (arith, length_line k (line_of r), ap (λ (xs : List ℕ). length (columns_text xs)) (columns_are r), columns, decimal_at_most 2 k g)
+    let line = ap length (line_is k (line_of r) refl) ∙ length-append (decimal k) (columns_text (columns_of (line_of r))) in
+    omega (arith, line, ap (λ (xs : List ℕ). length (columns_text xs)) (columns_are r), columns, decimal_at_most 2 k g)
 
 pub lines_at_most : (w m k : ℕ) (b : List ℕ) → AreBytes b → k + m ≤ 1000 → length (lines_text k (first_lines w m b)) ≤ 109 * m
 unfolding lines_text first_lines

@@ -1,37 +1,38 @@
 -- Laws of the whole listing.
 --   Accepted, accepted_facts                              what it is that an input is not refused, as facts on numbers
---   listing_refused, listing_accepted, length_accepted    the listing, by cases
+--   listing_refused, listing_accepted, listing_records    the listing, by cases
 --   listing_at_most                                       a bound on its length
---   listing_written                                       the header, and the lines behind it
 --   listed_written, listed_needs                          what `print` answers and leaves
 --   first_decide, read_decides                            an input's first bytes, as a read leaves them, decide
 --   printed_fits, printed_text                            the bytes that are then to be written
 use mathlib.Core.Path.{◌≡◌, refl, sym, ap, ◌∙◌}
 use mathlib.Core.Bool.{Bool, true, false}
-use mathlib.Core.List.{List, ◌++◌}
-use Prim.Native.Nat.{ℕ, ◌+◌, ◌*◌, ◌≤◌, ◌<◌}
+use mathlib.Core.List.{List, ◌++◌, map}
+use Prim.Native.Nat.{ℕ, ◌+◌, ◌/◌, ◌≤◌, ◌<◌}
 use native.Mathlib.Omega.{arith}
 use borrow.Author.Tests.{ltb-false, lt-ltb, leb-true, leb-false, le-leb, lt-leb}
 use lib.Dec.{leb}
 use lib.ListN.{length, take, drop, length-append, length-drop}
 use lib.Seq.{take_all, length-take-le}
 use Rattle.octets.specs.Bytes.{AreBytes, splice}
-use Rattle.octets.proofs.Splice.{splice_join, splice_read}
+use Rattle.octets.proofs.Splice.{splice_read}
 use Rattle.octets.proofs.Bools.{neither}
-use Rattle.records.specs.Layout.{Line, record_size}
+use Rattle.std.specs.Simd.{first_chunks}
+use Rattle.records.specs.Layout.{line_of, record_size}
 use Rattle.records.specs.Buffer.{count_at, lines_in}
 use Rattle.records.proofs.Trailer.{sound_facts}
-use Rattle.listing.specs.Listing.{codes, header, refusal, lines_text, most_input, most_output, refused, listing_of, listed, of_listed, lengths, listed_bytes, ReadOf}
-use Rattle.listing.specs.declared.Listed.TheVariants.{Written, Needs}
-use Rattle.listing.proofs.RecordLines.{lines_at_most}
+use Rattle.std.specs.Prelude.{Ok, Err}
+use Rattle.std.specs.declared.result.Result.{Result}
+use Rattle.listing.specs.declared.TooShort.{TooShort}
+use Rattle.listing.specs.Listing.{codes, header, refusal, lines_text, most_input, most_output, refused, listing_of, too_short, listed, of_listed, lengths, listed_bytes, ReadOf}
+use Rattle.listing.proofs.RecordLines.{chunk_lines, lines_at_most}
 
 -- the number of records, with all of the input as used length
 abbrev pub count_in : List ℕ → ℕ
 count_in b = count_at b (length b)
 
 pub record Accepted (b : List ℕ) : Type 0 where
-  pub at_least : 16 ≤ length b
-  pub inside : record_size * count_in b ≤ length b
+  pub count_is : length b / record_size ≡ count_in b
   pub few : count_in b ≤ 682
 
 pub accepted_facts : (b : List ℕ) → refused b ≡ false → Accepted b
@@ -40,7 +41,7 @@ accepted_facts b e =
     let n = neither _ _ e in
     let s = sound_facts b (length b) n.1 in
     let m : length b ≤ 65536 = ltb-false _ _ n.0 in
-    record { at_least = s.at_least; inside = omega (arith, s.length_is); few = omega (arith, s.length_is) }
+    record { count_is = omega (arith, s.length_is); few = omega (arith, s.length_is) }
 
 -- ── the listing
 
@@ -56,42 +57,39 @@ pub listing_accepted : (b : List ℕ) → refused b ≡ false → listing_of b �
 unfolding listing_of
 listing_accepted b e = rw e
 
-pub length_refused : (b : List ℕ) → refused b ≡ true → length (listing_of b) ≡ 11
+length_refused : (b : List ℕ) → refused b ≡ true → length (listing_of b) ≡ 11
 unfolding refusal codes
 length_refused b e = ap length (listing_refused b e)
 
--- of the lines that were read
-pub length_accepted : (b : List ℕ) {ls : List Line} {m : ℕ} → refused b ≡ false → ls ≡ lines_in b (length b) → m ≡ length (lines_text 0 ls) → 46 + m ≡ length (listing_of b)
-length_accepted b e l m =
-    rw (listing_accepted b e, length-append header (lines_text 0 (lines_in b (length b))), length_header, m, l)
+length_accepted : (b : List ℕ) → refused b ≡ false → length (listing_of b) ≡ 46 + length (lines_text 0 (lines_in b (length b)))
+length_accepted b e = rw (listing_accepted b e, length-append header (lines_text 0 (lines_in b (length b))), length_header) refl
+
+-- of the records that whole parts of the archive are
+pub listing_records : (b : List ℕ) {rs : List (List ℕ)} → refused b ≡ false → rs ≡ first_chunks record_size (length b / record_size) b → listing_of b ≡ header ++ lines_text 0 (map line_of rs)
+listing_records b e f =
+    listing_accepted b e ∙ (rw (f, (accepted_facts b e).count_is, chunk_lines record_size (count_in b) b) refl)
 
 at_most_by : (b : List ℕ) → AreBytes b → (r : Bool) → refused b ≡ r → length (listing_of b) ≤ most_output
 at_most_by b h true e = omega (arith, length_refused b e)
 at_most_by b h false e =
     let a = accepted_facts b e in
-    omega (arith, length_accepted b e refl refl, lines_at_most record_size (count_in b) 0 b h (omega arith))
+    omega (arith, length_accepted b e, lines_at_most record_size (count_in b) 0 b h (omega arith))
 
 -- A buffer of this size holds the listing of every input.
 pub listing_at_most : (b : List ℕ) → AreBytes b → length (listing_of b) ≤ most_output
 listing_at_most b h = at_most_by b h (refused b) refl
 
-pub listing_written : (b o : List ℕ) {ls : List Line} {p q : List ℕ} → refused b ≡ false → ls ≡ lines_in b (length b) → p ≡ splice o 0 header
-    → q ≡ splice p 46 (lines_text 0 ls) → length (listing_of b) ≤ length o → q ≡ splice o 0 (listing_of b)
-listing_written b o e l f g h =
-    rw (listing_accepted b e)
-    (splice_join o 0 46 header (lines_text 0 (lines_in b (length b))) f (rw l at g) (omega (arith, length_header)) (omega (arith, length_accepted b e refl refl, length_header)))
-
 -- ── print
 
 pub listed_written : (b o : List ℕ) {n : ℕ} {q : List ℕ} → n ≡ length (listing_of b) → n ≤ length o → q ≡ splice o 0 (listing_of b)
-    → (Written n ≡ listed b (length o)) × (q ≡ listed_bytes b o) × (of_listed (Written n) ≡ lengths b (length o))
+    → let r : Result ℕ TooShort = Ok n in (r ≡ listed b (length o)) × (q ≡ listed_bytes b o) × (of_listed r ≡ lengths b (length o))
 unfolding listed listed_bytes lengths
-listed_written b o e h w = let t = le-leb (length (listing_of b)) (length o) (rw e at h) in rw t (ap Written e, w, rw e)
+listed_written b o e h w = let t = le-leb (length (listing_of b)) (length o) (rw e at h) in rw t (ap Ok e, w, rw e)
 
 pub listed_needs : (b o : List ℕ) {n : ℕ} → n ≡ length (listing_of b) → length o < n
-    → (Needs n ≡ listed b (length o)) × (o ≡ listed_bytes b o) × (of_listed (Needs n) ≡ lengths b (length o))
+    → let r : Result ℕ TooShort = Err (too_short n) in (r ≡ listed b (length o)) × (o ≡ listed_bytes b o) × (of_listed r ≡ lengths b (length o))
 unfolding listed listed_bytes lengths
-listed_needs b o e h = let t = lt-leb (length (listing_of b)) (length o) (rw e at h) in rw t (ap Needs e, refl, rw e)
+listed_needs b o e h = let t = lt-leb (length (listing_of b)) (length o) (rw e at h) in rw t (ap (λ m. Err (too_short m)) e, refl, rw e)
 
 -- ── from a read
 

@@ -1,5 +1,6 @@
 -- The printed archive, as bytes. Paper 01, 'The printed archive'.
-use Rattle.std.specs.Prelude.{◌≡◌, Bool, ◌||◌, cond, List, [], ◌∷◌, ◌++◌, map, ℕ, ◌+◌, ltb, leb, length, take}
+use Rattle.std.specs.Prelude.{◌≡◌, Bool, ◌||◌, cond, List, [], ◌∷◌, ◌++◌, map, ℕ, ◌+◌, ltb, leb, length, take, Ok, Err}
+use Rattle.std.specs.declared.result.Result.{Result}
 use Prim.Native.Char.{code}
 use Prim.Native.String.{String, [] as none, ◌∷◌ as ◌then◌}
 use Rattle.natural.specs.Ceiling.{ceiling}
@@ -8,8 +9,7 @@ use Rattle.kinds.specs.Case.{kind_of, row_of, route_of, dossier_of}
 use Rattle.records.specs.Layout.{Line}
 use Rattle.records.specs.Buffer.{broken, lines_in}
 use Rattle.listing.specs.Decimal.{decimal}
-use Rattle.listing.specs.declared.Listed.{Listed}
-use Rattle.listing.specs.declared.Listed.TheVariants.{Written, Needs}
+use Rattle.listing.specs.declared.TooShort.{TooShort}
 
 abbrev pub space : ℕ
 space = 32
@@ -74,18 +74,21 @@ listing_of b = cond (refused b) refusal (header ++ lines_text 0 (lines_in b (len
 abbrev pub holds : ℕ → List ℕ → Bool
 holds size b = leb (length (listing_of b)) size
 
--- its length beside what was done
-unfoldable pub listed : List ℕ → ℕ → Listed
-listed b size = cond (holds size b) (Written (length (listing_of b))) (Needs (length (listing_of b)))
+abbrev pub too_short : ℕ → TooShort
+too_short n = record { needed = n }
+
+-- its length, beside whether the buffer was too short
+unfoldable pub listed : List ℕ → ℕ → Result ℕ TooShort
+listed b size = cond (holds size b) (Ok (length (listing_of b))) (Err (too_short (length (listing_of b))))
 
 -- The answer in numbers: how many bytes were written at the start of the buffer, none where it is too short, and how many the listing has.
 pub record Lengths : Type 0 where
   pub written : ℕ
   pub needed : ℕ
 
-abbrev pub of_listed : Listed → Lengths
-of_listed (Written n) = record { written = n; needed = n }
-of_listed (Needs n) = record { written = 0; needed = n }
+abbrev pub of_listed : Result ℕ TooShort → Lengths
+of_listed (Ok n) = record { written = n; needed = n }
+of_listed (Err e) = record { written = 0; needed = e.needed }
 
 -- what `print` gives in numbers
 unfoldable pub lengths : List ℕ → ℕ → Lengths

@@ -1,33 +1,25 @@
 // Numbers as decimal text.
-ghost use Rattle.std.specs.Prelude.{◌≡◌, ◌+◌, ◌≤◌, length};
-ghost use Rattle.octets.specs.Bytes.{splice};
+ghost use Rattle.std.specs.Prelude.{◌≡◌, length};
 ghost use Rattle.listing.specs.Decimal.{decimal};
 
-pub fn decimal_length(x: u64) -> usize
-    ensures { result ≡ length (decimal x) }
-{
-    let mut n: usize = 1;
-    let mut rest = x;
-    while 10 <= rest {
-        rest /= 10;
-        n += 1;
-    }
-    n
-}
+use crate::sink::Sink;
 
-// Writes x from `at` on, the last digit first, and gives the place behind it.
-pub fn put_decimal(out: &mut [u8], at: usize, x: u64) -> usize
-    requires { at + length (decimal x) ≤ length out.old }
-    ensures { (result ≡ at + length (decimal x)) × (out.new ≡ splice out.old at (decimal x)) }
+// No number has more digits.
+const MOST_DIGITS: usize = 20;
+
+// Puts x, by its digits from the last on.
+pub fn put_decimal<S: Sink>(to: &mut S, x: u64)
+    requires { S.takes to.old (length (decimal x)) }
+    ensures { to.new ≡ S.after to.old (decimal x) }
 {
-    let end = at + decimal_length(x);
-    let mut last = end - 1;
+    let mut digits = [0; MOST_DIGITS];
     let mut rest = x;
-    while 10 <= rest {
-        out[last] = 48 + (rest % 10) as u8;
+    for place in (0..MOST_DIGITS).rev() {
+        digits[place] = b'0' + (rest % 10) as u8;
         rest /= 10;
-        last -= 1;
+        if rest == 0 {
+            to.put(&digits[place..]);
+            return;
+        }
     }
-    out[last] = 48 + rest as u8;
-    end
 }

@@ -1,27 +1,18 @@
-// The lines of a listing: their lengths, and their bytes written behind one another.
-ghost use Rattle.std.specs.Prelude.{◌≡◌, ◌+◌, ◌*◌, ◌≤◌, ◌<◌, length};
-ghost use Rattle.octets.specs.Bytes.{splice};
-ghost use Rattle.records.specs.Layout.{first_lines, line_of, figures_end};
+// The lines of a listing, put behind one another.
+ghost use Rattle.std.specs.Prelude.{◌≡◌, ◌≤◌, length, map};
+ghost use Rattle.records.specs.Layout.{line_of, figures_end};
 ghost use Rattle.listing.specs.Listing.{columns_of, columns_text, line_text, lines_text};
 ghost use Rattle.listing.specs.Listing.{milligrams as Listing·milligrams};
 
-use crate::decimal::{decimal_length, put_decimal};
+use crate::decimal::put_decimal;
+use crate::sink::Sink;
 use octets::{u8_at, u64_at};
 use records::figures_at;
 
-const SPACE: u8 = 32;
-
-const LINE_FEED: u8 = 10;
-
-// Rounded up by quotient and remainder: a figure near 2^64 and 999 more would not fit.
 fn milligrams(figure: u64) -> u64
     ensures { result ≡ Listing·milligrams figure }
 {
-    if figure % 1000 == 0 {
-        figure / 1000
-    } else {
-        figure / 1000 + 1
-    }
+    figure.div_ceil(1000)
 }
 
 // The columns of a record behind its number.
@@ -42,78 +33,35 @@ fn columns_of(bytes: &[u8]) -> [u64; 8]
     ]
 }
 
-fn columns_length(columns: &[u64]) -> usize
-    requires { length columns.now ≤ 8 }
-    ensures { result ≡ length (columns_text columns.now) }
+// Puts columns, each behind a space, then a line feed.
+fn put_columns<S: Sink>(to: &mut S, columns: &[u64])
+    requires { S.takes to.old (length (columns_text columns.now)) }
+    ensures { to.new ≡ S.after to.old (columns_text columns.now) }
 {
-    let mut n: usize = 1;
-    let mut i = 0;
-    while i < columns.len() {
-        n += 1 + decimal_length(columns[i]);
-        i += 1;
+    for column in columns {
+        to.put(b" ");
+        put_decimal(to, *column);
     }
-    n
+    to.put(b"\n");
 }
 
-fn line_length(number: usize, bytes: &[u8]) -> usize
-    requires { (figures_end ≤ length bytes.now) × (number < 1000) }
-    ensures { result ≡ length (line_text number (line_of bytes.now)) }
+// Puts the line of a record.
+fn put_line<S: Sink>(to: &mut S, number: usize, bytes: &[u8])
+    requires whole { figures_end ≤ length bytes.now }
+    requires room { S.takes to.old (length (line_text number (line_of bytes.now))) }
+    ensures { to.new ≡ S.after to.old (line_text number (line_of bytes.now)) }
 {
-    let columns = columns_of(bytes);
-    decimal_length(number as u64) + columns_length(&columns)
+    put_decimal(to, number as u64);
+    put_columns(to, &columns_of(bytes));
 }
 
-// Of n records, each as long as the width.
-pub fn lines_length(archive: &[u8], width: usize, n: usize) -> usize
-    requires { (width * n ≤ length archive.now) × (figures_end ≤ width) × (n ≤ 682) }
-    ensures { result ≡ length (lines_text 0 (first_lines width n archive.now)) }
+// Puts the lines of records, each as long as the width.
+pub fn put_lines<S: Sink, const WIDTH: usize>(to: &mut S, records: &[[u8; WIDTH]])
+    requires whole { figures_end ≤ WIDTH }
+    requires room { S.takes to.old (length (lines_text 0 (map line_of records.now))) }
+    ensures { to.new ≡ S.after to.old (lines_text 0 (map line_of records.now)) }
 {
-    let mut sum: usize = 0;
-    let mut k: usize = 0;
-    while k < n {
-        let at = width * k;
-        sum += line_length(k, &archive[at..at + width]);
-        k += 1;
-    }
-    sum
-}
-
-// Writes columns from `start` on, each behind a space, then a line feed, and gives the place behind it.
-fn put_columns(out: &mut [u8], start: usize, columns: &[u64]) -> usize
-    requires { start + length (columns_text columns.now) ≤ length out.old }
-    ensures { (result ≡ start + length (columns_text columns.now)) × (out.new ≡ splice out.old start (columns_text columns.now)) }
-{
-    let mut at = start;
-    let mut i = 0;
-    while i < columns.len() {
-        out[at] = SPACE;
-        at = put_decimal(out, at + 1, columns[i]);
-        i += 1;
-    }
-    out[at] = LINE_FEED;
-    at + 1
-}
-
-// Writes the line of a record from `at` on, and gives the place behind it.
-fn put_line(out: &mut [u8], at: usize, number: usize, bytes: &[u8]) -> usize
-    requires { (figures_end ≤ length bytes.now) × (at + length (line_text number (line_of bytes.now)) ≤ length out.old) }
-    ensures { (result ≡ at + length (line_text number (line_of bytes.now))) × (out.new ≡ splice out.old at (line_text number (line_of bytes.now))) }
-{
-    let columns = columns_of(bytes);
-    let next = put_decimal(out, at, number as u64);
-    put_columns(out, next, &columns)
-}
-
-// Writes the lines of n records, each as long as the width, from `start` on.
-pub fn put_lines(out: &mut [u8], start: usize, archive: &[u8], width: usize, n: usize)
-    requires { (width * n ≤ length archive.now) × (figures_end ≤ width) × (start + length (lines_text 0 (first_lines width n archive.now)) ≤ length out.old) }
-    ensures { out.new ≡ splice out.old start (lines_text 0 (first_lines width n archive.now)) }
-{
-    let mut at = start;
-    let mut k: usize = 0;
-    while k < n {
-        let from = width * k;
-        at = put_line(out, at, k, &archive[from..from + width]);
-        k += 1;
+    for (k, record) in records.iter().enumerate() {
+        put_line(to, k, record);
     }
 }

@@ -7,4 +7,4 @@ returns-then-out-needed c = listed_needs _ _ c.listing_length-needed.ensures c.i
 
 pub returns : goal.returns
 returns c =
-    listed_written _ _ c.listing_length-needed.ensures c.if-out-needed.false c.put_listing.ensures
+    listed_written _ _ c.listing_length-needed.ensures c.if-out-needed.false c.write_at_start.ensures.1

@@ -1,32 +1,36 @@
--- The invariant: the digits that are left, over the bytes as they are, make the number that is asked.
-use mathlib.Core.Path.{refl, ap, ◌∙◌}
-use Prim.Native.Nat.{◌+◌, ◌/◌}
+-- The invariant: the digits of what is left, and those that stand from the place on, are the digits of x.
+use mathlib.Core.Path.{sym, ap, ◌∙◌}
+use mathlib.Core.List.{append-nil}
 use native.Mathlib.Omega.{arith}
-use lib.ListN.{length-set}
-use Rattle.listing.proofs.DecimalText.{length_more, decimal_some}
-use Rattle.listing.proofs.Stores.{digit_stored, first_stored}
+use borrow.Author.Rules.{rules}
+use lib.ListN.{length, drop, length-append, length-drop, length-set}
+use Rattle.listing.specs.Decimal.{decimal}
+use Rattle.listing.proofs.DecimalText.{decimal_some, decimal_at_most}
+use Rattle.listing.proofs.Stores.{digit_stored, all_stored}
+use Rattle.listing.proofs.Sinks.{all_left, last_fits, all_put}
 use Rattle.listing.proofs.decimal.put_decimal.Goals as goal
 
-pub overflow_sub-last : goal.overflow_sub-last
-overflow_sub-last c = omega (arith, decimal_some c.args.x)
+pub loop-place-init : goal.loop-place-init
+loop-place-init g c = (all_left g.met.S.Sink.laws _ _ c.requires, search rules, append-nil (decimal c.args.x))
 
-pub loop-rest-init : goal.loop-rest-init
-loop-rest-init c = let p = decimal_some c.args.x in (omega arith, omega arith, refl, refl)
+pub put-requires : goal.put-requires
+put-requires g c =
+    let l = c.loop-place in
+    let e = all_stored l.digits l.place l.rest 20 (omega arith) (omega arith) (omega arith) (omega arith) ∙ l.invariant.2 in
+    last_fits g.met.S.Sink.laws l.invariant.0 (sym e)
 
-pub overflow_sub-last-in-loop-rest : goal.overflow_sub-last-in-loop-rest
-overflow_sub-last-in-loop-rest c = let l = c.loop-rest in omega (arith, length_more l.rest c.loop-rest-test.true, decimal_some (l.rest / 10))
+pub returns-then-rest-eq0 : goal.returns-then-rest-eq0
+returns-then-rest-eq0 g c =
+    let l = c.loop-place in
+    let e = all_stored l.digits l.place l.rest 20 (omega arith) (omega arith) (omega arith) (omega arith) ∙ l.invariant.2 in
+    all_put g.met.S.Sink.laws l.invariant.0 (sym e) c.put.ensures
 
-pub loop-rest-preserved : goal.loop-rest-preserved
-loop-rest-preserved c =
-    let l = c.loop-rest in
-    let m = length_more l.rest c.loop-rest-test.true in
-    let d = digit_stored l.out c.args.at l.last l.rest c.loop-rest-test.true l.invariant.1 (omega arith) in
-    (omega arith, omega (arith, decimal_some (l.rest / 10)), simp length-set l.invariant.2, d ∙ l.invariant.3)
-
-pub shape_of-out : goal.shape_of-out
-shape_of-out c = simp length-set c.loop-rest.invariant.2
+pub loop-place-preserved : goal.loop-place-preserved
+loop-place-preserved g c =
+    let l = c.loop-place in
+    (l.invariant.0, simp length-set l.invariant.1, digit_stored l.digits l.place l.rest (omega arith) (omega arith) (omega arith) ∙ l.invariant.2)
 
 pub returns : goal.returns
-returns c =
-    let l = c.loop-rest in
-    (ap (λ n. c.args.at + n) c.decimal_length.ensures, first_stored l.out c.args.at l.last l.rest c.loop-rest-test.false l.invariant.1 (omega arith) ∙ l.invariant.3)
+returns g c =
+    let l = c.loop-place in
+    absurd (omega (arith, ap length l.invariant.2, length-append (decimal l.rest) (drop l.place l.digits), length-drop l.place l.digits, decimal_some l.rest, decimal_at_most 19 c.args.x (omega arith)))

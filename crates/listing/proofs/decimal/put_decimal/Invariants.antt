@@ -1,14 +1,11 @@
--- The invariant: the digits that are left, over the bytes as they are, make the number that is asked.
+-- The invariant: the digits of what is left, and those that stand from the place on, are the digits of x, and all are to be put.
 use mathlib.Core.Path.{◌≡◌}
-use Prim.Native.Nat.{◌+◌, ◌<◌}
-use lib.ListN.{length}
-use Rattle.octets.specs.Bytes.{splice}
+use mathlib.Core.List.{◌++◌}
+use lib.ListN.{length, drop}
 use Rattle.listing.specs.Decimal.{decimal}
+use Rattle.listing.proofs.Sinks.{Left}
 use Rattle.listing.proofs.decimal.put_decimal.Given as goal
 
-abbrev pub invariant-loop-rest : goal.invariant-loop-rest
-invariant-loop-rest l =
-    (l.last < l.end) × (l.last + 1 ≡ l.at + length (decimal l.rest)) × (length l.out ≡ length l.initial.out) × (splice l.out l.at (decimal l.rest) ≡ splice l.initial.out l.at (decimal l.x))
-
-abbrev pub decreases-loop-rest : goal.decreases-loop-rest
-decreases-loop-rest l = l.rest
+abbrev pub invariant-loop-place : goal.invariant-loop-place
+invariant-loop-place g l =
+    Left g.S.Sink.after g.S.Sink.takes l.initial.to l.to (decimal l.x) (decimal l.x) × (length l.digits ≡ 20) × (decimal l.rest ++ drop l.place l.digits ≡ decimal l.x)

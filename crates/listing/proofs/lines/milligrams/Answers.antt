@@ -1,9 +1,7 @@
--- A quotient, plus one where something is left.
-use Rattle.listing.proofs.Columns.{milligrams_whole, milligrams_more}
+-- std's quotient rounded up is the definition's.
+use mathlib.Core.Path.{◌∙◌}
+use Rattle.listing.proofs.Columns.{milligrams_are}
 use Rattle.listing.proofs.lines.milligrams.Goals as goal
 
-pub returns-then-figure-eq0 : goal.returns-then-figure-eq0
-returns-then-figure-eq0 c = milligrams_whole _ c.if-figure-eq0.true
-
-pub returns-else-figure-eq0 : goal.returns-else-figure-eq0
-returns-else-figure-eq0 c = milligrams_more _ c.if-figure-eq0.false
+pub returns : goal.returns
+returns c = c.div_ceil.ensures ∙ milligrams_are _

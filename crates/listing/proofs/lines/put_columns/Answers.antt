@@ -1,47 +1,29 @@
--- The invariant: the columns that are left, over the bytes as they are, make the bytes that are asked.
-use mathlib.Core.Path.{refl, sym, ap, ◌∙◌}
-use Prim.Native.Nat.{◌+◌}
-use native.Mathlib.Omega.{arith}
-use lib.ListN.{length, drop, length-set}
-use Rattle.octets.specs.Bytes.{splice}
-use Rattle.listing.specs.Listing.{line_feed, columns_text}
-use Rattle.listing.proofs.Stores.{store_one}
-use Rattle.listing.proofs.Columns.{columns_step, length_columns_step, columns_end, column_written}
+-- The invariant: the columns from the next on are left.
+use mathlib.Core.Path.{refl}
+use mathlib.Core.List.{[], ◌∷◌}
+use Rattle.listing.specs.Listing.{space}
+use Rattle.listing.proofs.Sinks.{all_left, first_fits, others_left, last_fits, all_put}
+use Rattle.listing.proofs.Columns.{columns_step, columns_end}
 use Rattle.listing.proofs.lines.put_columns.Goals as goal
 
-pub loop-i-init : goal.loop-i-init
-loop-i-init c = (omega arith, refl, refl, refl)
+pub loop-column-init : goal.loop-column-init
+loop-column-init g c = all_left g.met.S.Sink.laws _ _ c.requires
 
-pub bounds-out-at : goal.bounds-out-at
-bounds-out-at c = omega (arith, length_columns_step c.args.columns.now c.loop-i.i c.loop-i-test.true)
+pub put-requires : goal.put-requires
+put-requires g c = first_fits g.met.S.Sink.laws c.loop-column.invariant (space ∷ []) _ (columns_step _ _ c.loop-column-test.true)
 
-pub overflow_add-at : goal.overflow_add-at
-overflow_add-at c = omega (arith, length_columns_step c.args.columns.now c.loop-i.i c.loop-i-test.true)
+pub put_decimal-requires : goal.put_decimal-requires
+put_decimal-requires g c =
+    let w = g.met.S.Sink.laws in
+    first_fits w (others_left w c.loop-column.invariant (space ∷ []) _ (columns_step _ _ c.loop-column-test.true) c.put.ensures) _ _ refl
 
-pub put_decimal-at-requires : goal.put_decimal-at-requires
-put_decimal-at-requires c = simp length-set (omega (arith, length_columns_step c.args.columns.now c.loop-i.i c.loop-i-test.true))
+pub loop-column-preserved : goal.loop-column-preserved
+loop-column-preserved g c =
+    let w = g.met.S.Sink.laws in
+    others_left w (others_left w c.loop-column.invariant (space ∷ []) _ (columns_step _ _ c.loop-column-test.true) c.put.ensures) _ _ refl c.put_decimal.ensures
 
-pub loop-i-preserved : goal.loop-i-preserved
-loop-i-preserved c =
-    let l = c.loop-i in
-    let a = c.args in
-    let m = length_columns_step a.columns.now l.i c.loop-i-test.true in
-    let s = columns_step a.columns.now l.i c.loop-i-test.true in
-    let w = column_written l.out l.at _ (columns_text (drop (l.i + 1) a.columns.now)) c.put_decimal-at.ensures.1 c.put_decimal-at.ensures.0 (omega arith) in
-    (omega arith, c.put_decimal-at.auto.out ∙ simp length-set l.invariant.1, omega (arith, c.put_decimal-at.ensures.0), w ∙ ap (splice l.out l.at) (sym s) ∙ l.invariant.3)
-
-pub bounds-out-at-2 : goal.bounds-out-at-2
-bounds-out-at-2 c = omega (arith, ap length (columns_end c.args.columns.now c.loop-i.i c.loop-i-test.false))
-
-pub overflow_add-result : goal.overflow_add-result
-overflow_add-result c = omega (arith, ap length (columns_end c.args.columns.now c.loop-i.i c.loop-i-test.false))
-
-pub shape_of-out : goal.shape_of-out
-shape_of-out c = simp length-set c.loop-i.invariant.1
+pub put-requires-2 : goal.put-requires-2
+put-requires-2 g c = last_fits g.met.S.Sink.laws c.loop-column.invariant (columns_end _ _ c.loop-column-test.false)
 
 pub returns : goal.returns
-returns c =
-    let l = c.loop-i in
-    let none_left = columns_end c.args.columns.now l.i c.loop-i-test.false in
-    let n = ap length none_left in
-    (omega arith, store_one l.out l.at line_feed (omega arith) ∙ ap (splice l.out l.at) (sym none_left) ∙ l.invariant.3)
+returns g c = all_put g.met.S.Sink.laws c.loop-column.invariant (columns_end _ _ c.loop-column-test.false) c.put-2.ensures

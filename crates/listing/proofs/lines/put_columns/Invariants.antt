@@ -1,15 +1,8 @@
--- The invariant: the columns that are left, over the bytes as they are, make the bytes that are asked.
-use mathlib.Core.Path.{◌≡◌}
-use Prim.Native.Nat.{◌+◌, ◌-◌, ◌≤◌}
-use lib.ListN.{length, drop}
-use Rattle.octets.specs.Bytes.{splice}
+-- The invariant: the columns from the next on are left.
+use lib.ListN.{drop}
 use Rattle.listing.specs.Listing.{columns_text}
+use Rattle.listing.proofs.Sinks.{Left}
 use Rattle.listing.proofs.lines.put_columns.Given as goal
 
-abbrev pub invariant-loop-i : goal.invariant-loop-i
-invariant-loop-i l =
-    (l.i ≤ length l.columns) × (length l.out ≡ length l.initial.out) × (l.at + length (columns_text (drop l.i l.columns)) ≡ l.start + length (columns_text l.columns))
-    × (splice l.out l.at (columns_text (drop l.i l.columns)) ≡ splice l.initial.out l.start (columns_text l.columns))
-
-abbrev pub decreases-loop-i : goal.decreases-loop-i
-decreases-loop-i l = length l.columns - l.i
+abbrev pub invariant-loop-column : goal.invariant-loop-column
+invariant-loop-column g l = Left g.S.Sink.after g.S.Sink.takes l.initial.to l.to (columns_text l.columns) (columns_text (drop l.column-index l.columns))
