@@ -1,0 +1,13 @@
+-- No limbs are worth 0.
+use mathlib.Core.Path.{◌≡◌, refl}
+use native.Mathlib.Omega.{arith}
+use lib.ListN.{take}
+use Rattle.limbs.specs.Value.{value}
+use Rattle.product.specs.Ratio.{◌over◌}
+use Rattle.product.proofs.Product.of.Goals as goal
+
+pub returns : goal.returns
+unfolding value
+returns g c =
+    let e : value (take c.grow.result c.grow.new.limbs) ≡ c.args.k = omega (arith, c.grow.ensures.0) in
+    (λ j. e j over 1, omega arith, refl)
