@@ -41,56 +41,52 @@ struct Product<const N: usize> {
 impl<const N: usize> Product<N> {
     ghost use Rattle.product.specs.Held.{held};
 
-    // k, which the product starts with.
-    fn of(k: u64) -> Self
-        requires { 2 ≤ N }
-        ensures { (held result ≡ k over 1) × (result.count ≤ 2) × (result.depth ≡ 0) }
+    // No limbs. A start writes in place, so that they are not copied.
+    fn new() -> Self
+        ensures { (result.count ≡ 0) × (result.depth ≡ 0) }
     {
-        let mut p = Product {
+        Product {
             limbs: [0; N],
             count: 0,
             depth: 0,
-        };
-        p.count = grow(&mut p.limbs, 0, 1, k);
-        p
+        }
     }
 
-    // 1 - x.
-    fn one_less(x: f64) -> Self
+    // Starts as k.
+    fn start(&mut self, k: u64)
+        requires { 2 ≤ N }
+        ensures { (held self.new ≡ k over 1) × (self.new.count ≤ 2) × (self.new.depth ≡ 0) }
+    {
+        self.count = grow(&mut self.limbs, 0, 1, k);
+        self.depth = 0;
+    }
+
+    // Starts as 1 - x.
+    fn start_one_less(&mut self, x: f64)
         requires { (36 ≤ N) × UpTo 1 x }
-        ensures { Same (held result) (one_less (exactly x)) × (result.count ≤ 36) × (result.depth ≤ 1074) }
+        ensures { Same (held self.new) (one_less (exactly x)) × (self.new.count ≤ 36) × (self.new.depth ≤ 1074) }
     {
         let q = dyadic_of(x);
-        let mut p = Product {
-            limbs: [0; N],
-            count: 0,
-            depth: q.depth,
-        };
-        p.count = starts::complement(&mut p.limbs, q.depth, q.significand);
-        p
+        self.count = starts::complement(&mut self.limbs, q.depth, q.significand);
+        self.depth = q.depth;
     }
 
-    // a + b.
-    fn sum(a: f64, b: f64) -> Self
+    // Starts as a + b.
+    fn start_sum(&mut self, a: f64, b: f64)
         requires { (36 ≤ N) × UpTo largest a × UpTo largest b }
-        ensures { Same (held result) (exactly a ⊕ exactly b) × (result.count ≤ 36) × (result.depth ≤ 1074) }
+        ensures { Same (held self.new) (exactly a ⊕ exactly b) × (self.new.count ≤ 36) × (self.new.depth ≤ 1074) }
     {
         let p = dyadic_of(a);
         let q = dyadic_of(b);
         let depth = larger(p.depth, q.depth);
-        let mut s = Product {
-            limbs: [0; N],
-            count: 0,
-            depth,
-        };
-        s.count = starts::sum(
-            &mut s.limbs,
+        self.count = starts::sum(
+            &mut self.limbs,
             p.significand,
             depth - p.depth,
             q.significand,
             depth - q.depth,
         );
-        s
+        self.depth = depth;
     }
 
     // Times f; by 1 at no cost.
@@ -145,7 +141,8 @@ pub fn product_up(quantities: &[f64], k: u64, d: u32) -> u64
     requires { (length quantities.now ≤ 5) × (0 < d) × Each quantities.now }
     ensures { result ≡ rounded_u64 ((k over d) · chain (map quantity quantities.now)) }
 {
-    let mut p = Product::<12>::of(k);
+    let mut p = Product::<12>::new();
+    p.start(k);
     p.by(quantities);
     p.up(d)
 }
@@ -155,7 +152,8 @@ pub fn remainder_up(x: f64, quantities: &[f64], k: u64, d: u32) -> u64
     requires { (length quantities.now ≤ 4) × (0 < d) × UpTo 1 x × Each quantities.now }
     ensures { result ≡ rounded_u64 ((k over d) · chain (less x ∷ map quantity quantities.now)) }
 {
-    let mut p = Product::<46>::one_less(x);
+    let mut p = Product::<46>::new();
+    p.start_one_less(x);
     p.times(k);
     p.by(quantities);
     p.up(d)
@@ -166,7 +164,8 @@ pub fn sum_up(a: f64, b: f64, quantities: &[f64], k: u64, d: u32) -> u64
     requires { (length quantities.now ≤ 2) × (0 < d) × UpTo largest a × UpTo largest b × Each quantities.now }
     ensures { result ≡ rounded_u64 ((k over d) · ((exactly a ⊕ exactly b) · chain (map quantity quantities.now))) }
 {
-    let mut p = Product::<42>::sum(a, b);
+    let mut p = Product::<42>::new();
+    p.start_sum(a, b);
     p.times(k);
     p.by(quantities);
     p.up(d)
@@ -177,7 +176,8 @@ pub fn three_up(quantities: &[f64], x: f64, y: f64, z: f64, k: u64, d: u32) -> [
     requires { (length quantities.now ≤ 2) × (0 < d) × Each quantities.now × Each (x ∷ y ∷ z ∷ []) }
     ensures { result ≡ map (λ t. rounded_u64 ((k over d) · chain (map quantity quantities.now ++ quantity t ∷ []))) (x ∷ y ∷ z ∷ []) }
 {
-    let mut p = Product::<8>::of(k);
+    let mut p = Product::<8>::new();
+    p.start(k);
     p.by(quantities);
     [p.branch_up(x, d), p.branch_up(y, d), p.branch_up(z, d)]
 }

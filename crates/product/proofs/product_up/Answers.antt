@@ -8,4 +8,4 @@ use Rattle.product.proofs.product_up.Goals as goal
 pub returns : goal.returns
 returns c =
     c.up.ensures
-    ∙ start_constant _ _ _ _ _ c.requires.1 (pow_pos c.by.new.self.depth) (quantities_positive c.args.quantities.now) c.of-p.ensures.0 c.by.ensures.0
+    ∙ start_constant _ _ _ _ _ c.requires.1 (pow_pos c.by.new.self.depth) (quantities_positive c.args.quantities.now) c.start.ensures.0 c.by.ensures.0

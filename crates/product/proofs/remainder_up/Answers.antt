@@ -10,4 +10,4 @@ pub returns : goal.returns
 unfolding chain
 returns c =
     c.up.ensures
-    ∙ start_times _ _ _ _ _ _ _ c.requires.1 (pow_pos c.by.new.self.depth) (pow_pos c.times.new.self.depth) (pow_pos 1074) (quantities_positive c.args.quantities.now) c.one_less-p.ensures.0 c.times.ensures.0 c.by.ensures.0
+    ∙ start_times _ _ _ _ _ _ _ c.requires.1 (pow_pos c.by.new.self.depth) (pow_pos c.times.new.self.depth) (pow_pos 1074) (quantities_positive c.args.quantities.now) c.start_one_less.ensures.0 c.times.ensures.0 c.by.ensures.0

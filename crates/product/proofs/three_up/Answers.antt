@@ -22,5 +22,5 @@ branch_up-requires-3 c = (omega arith, omega arith, c.requires.1, c.requires.3.1
 
 pub returns : goal.returns
 returns c =
-    let up = λ (t : Float). start_shared _ _ c.args.quantities.now t c.args.k c.args.d c.requires.1 (pow_pos c.by.new.self.depth) c.of-p.ensures.0 c.by.ensures.0 in
+    let up = λ (t : Float). start_shared _ _ c.args.quantities.now t c.args.k c.args.d c.requires.1 (pow_pos c.by.new.self.depth) c.start.ensures.0 c.by.ensures.0 in
     λ j. (c.branch_up.ensures ∙ up c.args.x) j ∷ (c.branch_up-2.ensures ∙ up c.args.y) j ∷ (c.branch_up-3.ensures ∙ up c.args.z) j ∷ []
