@@ -1,7 +1,7 @@
 -- Laws of what a product starts with, and the constant in it.
 --   ended, same_ended, start_constant, start_shared, start_times   a constant, and any start times a constant, divided and rounded up
 --   complement_fits, start_remainder, start_sum        the two wide starts
-use mathlib.Core.Path.{◌≡◌, refl, sym, ap, subst, ◌∙◌}
+use mathlib.Core.Path.{◌≡◌, refl, sym, ap, ◌∙◌}
 use mathlib.Core.List.{List, [], ◌∷◌, ◌++◌, map}
 use Prim.Native.Nat.{ℕ, ◌+◌, ◌-◌, ◌*◌, ◌^◌, ◌≤◌, ◌<◌, min}
 use native.Mathlib.Nat.{mul-pos, mul-le-mul_right, le_of_mul-le-mul_right}
@@ -9,7 +9,7 @@ use native.Mathlib.Omega.{arith}
 use lib.Pow.{pow-add, pow_pos}
 use lib.Ieee.{Float, binary64, to_bits}
 use Rattle.binary64.specs.Quantity.{whole, one}
-use Rattle.product.specs.Ratio.{Ratio, ◌over◌, ◌·◌, ◌⊕◌, one_less, exactly, Same, rounded_u64}
+use Rattle.product.specs.Ratio.{Ratio, ◌over◌, ◌·◌, ◌⊕◌, one_less, exactly, Same, rounded_up, rounded_u64}
 use Rattle.product.specs.Chain.{quantity, chain}
 use Rattle.product.specs.Ranges.{UpTo}
 use Rattle.product.proofs.Ratios.{times_assoc, same_of, same_trans, same_scaled, same_plus, rounded_same}
@@ -17,25 +17,20 @@ use Rattle.product.proofs.Chains.{chain_append, quantities_positive}
 
 -- ── the constant k, divided by d
 
-ended_across : (a b x y k d : ℕ) → a * (1 * y) ≡ k * x * b → a * 1 * (d * y) ≡ k * x * (b * d)
-ended_across a b x y k d e =
-    let f : a * (1 * y) * d ≡ k * x * b * d = ap (λ (n : ℕ). n * d) e in
-    omega arith
-
--- a product p that is k times c
-pub ended : (p c : Ratio) (k d : ℕ) → 0 < d → 0 < p.lower → 0 < c.lower → Same p (k over 1 · c) → rounded_u64 (p · 1 over d) ≡ rounded_u64 (k over d · c)
-ended p c k d h hp hc e =
-    ap (λ (n : ℕ). min 18446744073709551615 n)
-    (rounded_same (p · 1 over d) (k over d · c) (mul-pos hp h) (mul-pos h hc) (ended_across p.upper p.lower c.upper c.lower k d e))
-
 -- the same value over d
 pub same_ended : (p q : Ratio) (d : ℕ) → 0 < d → 0 < p.lower → 0 < q.lower → Same p q → rounded_u64 (p · 1 over d) ≡ rounded_u64 (q · 1 over d)
 same_ended p q d h hp hq e =
     ap (λ (n : ℕ). min 18446744073709551615 n) (rounded_same (p · 1 over d) (q · 1 over d) (mul-pos hp h) (mul-pos hq h) (same_scaled p q (1 over d) e))
 
+constant_across : (k d x y : ℕ) → k * x * 1 * (d * y) ≡ k * x * (1 * y * d)
+constant_across k d x y = omega arith
+
 -- the constant first, as s
-pub start_constant : (p s c : Ratio) (k d : ℕ) → 0 < d → 0 < p.lower → 0 < c.lower → s ≡ k over 1 → Same p (s · c) → rounded_u64 (p · 1 over d) ≡ rounded_u64 (k over d · c)
-start_constant p s c k d h hp hc es e = ended p c k d h hp hc (subst (λ (r : Ratio). Same p (r · c)) es e)
+pub start_constant : (s c : Ratio) (k d : ℕ) → 0 < d → 0 < c.lower → s ≡ k over 1 → rounded_u64 (s · c · 1 over d) ≡ rounded_u64 (k over d · c)
+start_constant s c k d h hc e =
+    ap (λ (n : ℕ). min 18446744073709551615 n)
+    (ap (λ (r : Ratio). rounded_up (r · c · 1 over d)) e
+    ∙ rounded_same (k over 1 · c · 1 over d) (k over d · c) (mul-pos (mul-pos (omega arith) hc) h) (mul-pos h hc) (constant_across k d c.upper c.lower))
 
 -- the same, of a product p that branches off by x
 pub start_shared : (p s : Ratio) (xs : List Float) (x : Float) (k d : ℕ) → 0 < d → 0 < p.lower → s ≡ k over 1 → Same p (s · chain (map quantity xs))
@@ -44,21 +39,24 @@ start_shared p s xs x k d h hp es e =
     let c = chain (map quantity xs) in
     let b = chain (quantity x ∷ []) in
     let g = quantities_positive (x ∷ []) in
-    start_constant (p · b) s (c · b) k d h (mul-pos hp g) (mul-pos (quantities_positive xs) g) es (same_of refl (times_assoc s c b) (same_scaled p (s · c) b e))
+    let hs : 0 < s.lower = rw es (omega arith) in
+    let hc : 0 < (c · b).lower = mul-pos (quantities_positive xs) g in
+    same_ended (p · b) (s · (c · b)) d h (mul-pos hp g) (mul-pos hs hc) (same_of refl (times_assoc s c b) (same_scaled p (s · c) b e))
+    ∙ start_constant s (c · b) k d h hc es
     ∙ ap (λ (r : Ratio). rounded_u64 (k over d · r)) (chain_append (map quantity xs) (quantity x ∷ []))
 
-times_across : (a b x y u v k : ℕ) → a * y ≡ x * b → a * k * u * (1 * (y * v)) ≡ k * (x * u) * (b * 1 * v)
-times_across a b x y u v k e =
-    let f : a * y * (k * u * v) ≡ x * b * (k * u * v) = ap (λ (n : ℕ). n * (k * u * v)) e in
+times_across : (a b x y u v k d : ℕ) → a * y ≡ x * b → a * k * u * 1 * (d * (y * v)) ≡ k * (x * u) * (b * 1 * v * d)
+times_across a b x y u v k d e =
+    let f : a * y * (k * u * v * d) ≡ x * b * (k * u * v * d) = ap (λ (n : ℕ). n * (k * u * v * d)) e in
     omega arith
 
 -- what has the value q first, as s, then the constant
-pub start_times : (p t s q c : Ratio) (k d : ℕ) → 0 < d → 0 < p.lower → 0 < t.lower → 0 < q.lower → 0 < c.lower → Same s q → t ≡ s · k over 1 → Same p (t · c)
-    → rounded_u64 (p · 1 over d) ≡ rounded_u64 (k over d · (q · c))
-start_times p t s q c k d h hp ht hq hc es et e =
-    ended p (q · c) k d h hp (mul-pos hq hc)
-    (same_trans p (t · c) (k over 1 · (q · c)) (mul-pos ht hc) e
-    (same_of (λ j. et j · c) refl (times_across s.upper s.lower q.upper q.lower c.upper c.lower k es)))
+pub start_times : (t s q c : Ratio) (k d : ℕ) → 0 < d → 0 < t.lower → 0 < q.lower → 0 < c.lower → Same s q → t ≡ s · k over 1
+    → rounded_u64 (t · c · 1 over d) ≡ rounded_u64 (k over d · (q · c))
+start_times t s q c k d h ht hq hc es et =
+    ap (λ (n : ℕ). min 18446744073709551615 n)
+    (rounded_same (t · c · 1 over d) (k over d · (q · c)) (mul-pos (mul-pos ht hc) h) (mul-pos h (mul-pos hq hc))
+    (same_of (λ j. et j · c · 1 over d) refl (times_across s.upper s.lower q.upper q.lower c.upper c.lower k d es)))
 
 -- ── the wide starts
 

@@ -5,6 +5,7 @@ ghost use Rattle.std.specs.Prelude.{◌≡◌, [], ◌∷◌, ◌++◌, map, ◌
 ghost use Rattle.product.specs.Ratio.{◌over◌, ◌·◌, ◌⊕◌, one_less, exactly, Same, rounded_u64};
 ghost use Rattle.product.specs.Chain.{quantity, less, chain};
 ghost use Rattle.product.specs.Ranges.{UpTo, Each, largest};
+ghost use Rattle.product.specs.Held.{held};
 
 use binary64::pattern::{parts_of, pattern_of};
 use chain::products::grow;
@@ -30,80 +31,78 @@ fn dyadic_of(x: f64) -> Dyadic
 }
 
 // The number in the first `count` limbs, over 2^depth: specs/Held has its value. The limbs above are of no account.
-#[derive(Clone, Copy)]
-struct Product<const N: usize> {
-    limbs: [u32; N],
+#[derive(Drop)]
+struct Product<'a> {
+    limbs: &'a mut [u32],
     count: usize,
     depth: usize,
-    ghost fits: { count ≤ N },
 }
 
-impl<const N: usize> Product<N> {
-    ghost use Rattle.product.specs.Held.{held};
-
-    // No limbs. A start writes in place, so that they are not copied.
-    fn new() -> Self
-        ensures { (result.count ≡ 0) × (result.depth ≡ 0) }
+impl<'a> Product<'a> {
+    // k.
+    fn of(limbs: &'a mut [u32], k: u64) -> Self
+        requires { 2 ≤ length limbs.old }
+        ensures { (held result ≡ k over 1) × (result.count ≤ 2) × (result.depth ≡ 0) × (length result.limbs.now ≡ length limbs.old) }
     {
+        let count = grow(limbs, 0, 1, k);
         Product {
-            limbs: [0; N],
-            count: 0,
+            limbs,
+            count,
             depth: 0,
         }
     }
 
-    // Starts as k.
-    fn start(&mut self, k: u64)
-        requires { 2 ≤ N }
-        ensures { (held self.new ≡ k over 1) × (self.new.count ≤ 2) × (self.new.depth ≡ 0) }
-    {
-        self.count = grow(&mut self.limbs, 0, 1, k);
-        self.depth = 0;
-    }
-
-    // Starts as 1 - x.
-    fn start_one_less(&mut self, x: f64)
-        requires { (36 ≤ N) × UpTo 1 x }
-        ensures { Same (held self.new) (one_less (exactly x)) × (self.new.count ≤ 36) × (self.new.depth ≤ 1074) }
+    // 1 - x.
+    fn one_less(limbs: &'a mut [u32], x: f64) -> Self
+        requires { (36 ≤ length limbs.old) × UpTo 1 x }
+        ensures { Same (held result) (one_less (exactly x)) × (result.count ≤ 36) × (result.depth ≤ 1074) × (length result.limbs.now ≡ length limbs.old) }
     {
         let q = dyadic_of(x);
-        self.count = starts::complement(&mut self.limbs, q.depth, q.significand);
-        self.depth = q.depth;
+        let count = starts::complement(limbs, q.depth, q.significand);
+        Product {
+            limbs,
+            count,
+            depth: q.depth,
+        }
     }
 
-    // Starts as a + b.
-    fn start_sum(&mut self, a: f64, b: f64)
-        requires { (36 ≤ N) × UpTo largest a × UpTo largest b }
-        ensures { Same (held self.new) (exactly a ⊕ exactly b) × (self.new.count ≤ 36) × (self.new.depth ≤ 1074) }
+    // a + b.
+    fn sum(limbs: &'a mut [u32], a: f64, b: f64) -> Self
+        requires { (36 ≤ length limbs.old) × UpTo largest a × UpTo largest b }
+        ensures { Same (held result) (exactly a ⊕ exactly b) × (result.count ≤ 36) × (result.depth ≤ 1074) × (length result.limbs.now ≡ length limbs.old) }
     {
         let p = dyadic_of(a);
         let q = dyadic_of(b);
         let depth = larger(p.depth, q.depth);
-        self.count = starts::sum(
-            &mut self.limbs,
+        let count = starts::sum(
+            limbs,
             p.significand,
             depth - p.depth,
             q.significand,
             depth - q.depth,
         );
-        self.depth = depth;
+        Product {
+            limbs,
+            count,
+            depth,
+        }
     }
 
     // Times f; by 1 at no cost.
     fn times(&mut self, f: u64)
-        requires { self.old.count + 2 ≤ N }
-        ensures { (held self.new ≡ held self.old · f over 1) × (self.new.count ≤ self.old.count + 2) × (self.new.depth ≡ self.old.depth) }
+        requires { self.old.count + 2 ≤ length self.old.limbs.now }
+        ensures { (held self.new ≡ held self.old · f over 1) × (self.new.count ≤ self.old.count + 2) × (self.new.depth ≡ self.old.depth) × (length self.new.limbs.now ≡ length self.old.limbs.now) }
     {
         if f != 1 {
             let n = self.count;
-            self.count = grow(&mut self.limbs, n, f, 0);
+            self.count = grow(self.limbs, n, f, 0);
         }
     }
 
     // Times each of the quantities.
     fn by(&mut self, quantities: &[f64])
-        requires { (self.old.count + 2 * length quantities.now ≤ N) × (length quantities.now ≤ 5) × (self.old.depth ≤ 2148) × Each quantities.now }
-        ensures { Same (held self.new) (held self.old · chain (map quantity quantities.now)) × (self.new.count ≤ self.old.count + 2 * length quantities.now) × (self.new.depth ≤ self.old.depth + 1074 * length quantities.now) }
+        requires { (self.old.count + 2 * length quantities.now ≤ length self.old.limbs.now) × (length quantities.now ≤ 5) × (self.old.depth ≤ 2148) × Each quantities.now }
+        ensures { Same (held self.new) (held self.old · chain (map quantity quantities.now)) × (self.new.count ≤ self.old.count + 2 * length quantities.now) × (self.new.depth ≤ self.old.depth + 1074 * length quantities.now) × (length self.new.limbs.now ≡ length self.old.limbs.now) }
     {
         for x in quantities {
             let q = dyadic_of(*x);
@@ -112,27 +111,30 @@ impl<const N: usize> Product<N> {
         }
     }
 
-    // Divided by d and rounded up. The limbs keep it rounded down.
-    fn up(&mut self, d: u32) -> u64
-        requires { 0 < d }
-        ensures { result ≡ rounded_u64 (held self.old · 1 over d) }
+    // Times each of the quantities, divided by d and rounded up. The limbs keep it rounded down.
+    fn finish(&mut self, quantities: &[f64], d: u32) -> u64
+        requires { (self.old.count + 2 * length quantities.now ≤ length self.old.limbs.now) × (length quantities.now ≤ 5) × (self.old.depth ≤ 2148) × Each quantities.now × (0 < d) }
+        ensures { result ≡ rounded_u64 (held self.old · chain (map quantity quantities.now) · 1 over d) }
     {
+        self.by(quantities);
         let n = self.count;
-        round_up(&mut self.limbs[..n], self.depth, d)
+        let depth = self.depth;
+        round_up(&mut self.limbs[..n], depth, d)
     }
-}
-
-impl Product<8> {
-    ghost use Rattle.product.specs.Held.{held};
 
     // Times x, divided by d and rounded up. The product stays as it is.
     fn branch_up(&self, x: f64, d: u32) -> u64
-        requires { (self.now.count ≤ 6) × (self.now.depth ≤ 2148) × (0 < d) × UpTo largest x }
+        requires { (length self.now.limbs.now ≡ 8) × (self.now.count ≤ 6) × (self.now.depth ≤ 2148) × (0 < d) × UpTo largest x }
         ensures { result ≡ rounded_u64 (held self.now · chain (quantity x ∷ []) · 1 over d) }
     {
-        let mut p = *self;
-        p.by(&[x]);
-        p.up(d)
+        let mut limbs = [0u32; 8];
+        limbs.copy_from_slice(&self.limbs[..]);
+        let mut p = Product {
+            limbs: &mut limbs,
+            count: self.count,
+            depth: self.depth,
+        };
+        p.finish(&[x], d)
     }
 }
 
@@ -141,10 +143,8 @@ pub fn product_up(quantities: &[f64], k: u64, d: u32) -> u64
     requires { (length quantities.now ≤ 5) × (0 < d) × Each quantities.now }
     ensures { result ≡ rounded_u64 ((k over d) · chain (map quantity quantities.now)) }
 {
-    let mut p = Product::<12>::new();
-    p.start(k);
-    p.by(quantities);
-    p.up(d)
+    let mut limbs = [0u32; 12];
+    Product::of(&mut limbs, k).finish(quantities, d)
 }
 
 // k / d times 1 - x times the quantities, rounded up.
@@ -152,11 +152,10 @@ pub fn remainder_up(x: f64, quantities: &[f64], k: u64, d: u32) -> u64
     requires { (length quantities.now ≤ 4) × (0 < d) × UpTo 1 x × Each quantities.now }
     ensures { result ≡ rounded_u64 ((k over d) · chain (less x ∷ map quantity quantities.now)) }
 {
-    let mut p = Product::<46>::new();
-    p.start_one_less(x);
+    let mut limbs = [0u32; 46];
+    let mut p = Product::one_less(&mut limbs, x);
     p.times(k);
-    p.by(quantities);
-    p.up(d)
+    p.finish(quantities, d)
 }
 
 // k / d times a + b times the quantities, rounded up.
@@ -164,11 +163,10 @@ pub fn sum_up(a: f64, b: f64, quantities: &[f64], k: u64, d: u32) -> u64
     requires { (length quantities.now ≤ 2) × (0 < d) × UpTo largest a × UpTo largest b × Each quantities.now }
     ensures { result ≡ rounded_u64 ((k over d) · ((exactly a ⊕ exactly b) · chain (map quantity quantities.now))) }
 {
-    let mut p = Product::<42>::new();
-    p.start_sum(a, b);
+    let mut limbs = [0u32; 42];
+    let mut p = Product::sum(&mut limbs, a, b);
     p.times(k);
-    p.by(quantities);
-    p.up(d)
+    p.finish(quantities, d)
 }
 
 // k / d times the quantities times x, times y and times z, each rounded up. The quantities are multiplied once.
@@ -176,8 +174,8 @@ pub fn three_up(quantities: &[f64], x: f64, y: f64, z: f64, k: u64, d: u32) -> [
     requires { (length quantities.now ≤ 2) × (0 < d) × Each quantities.now × Each (x ∷ y ∷ z ∷ []) }
     ensures { result ≡ map (λ t. rounded_u64 ((k over d) · chain (map quantity quantities.now ++ quantity t ∷ []))) (x ∷ y ∷ z ∷ []) }
 {
-    let mut p = Product::<8>::new();
-    p.start(k);
+    let mut limbs = [0u32; 8];
+    let mut p = Product::of(&mut limbs, k);
     p.by(quantities);
     [p.branch_up(x, d), p.branch_up(y, d), p.branch_up(z, d)]
 }

@@ -8,5 +8,5 @@ use Rattle.product.proofs.sum_up.Goals as goal
 
 pub returns : goal.returns
 returns c =
-    c.up.ensures
-    ∙ start_times _ _ _ _ _ _ _ c.requires.1 (pow_pos c.by.new.self.depth) (pow_pos c.times.new.self.depth) (mul-pos (pow_pos 1074) (pow_pos 1074)) (quantities_positive c.args.quantities.now) c.start_sum.ensures.0 c.times.ensures.0 c.by.ensures.0
+    c.finish.ensures
+    ∙ start_times _ _ _ _ _ _ c.requires.1 (pow_pos c.times.new.self.depth) (mul-pos (pow_pos 1074) (pow_pos 1074)) (quantities_positive c.args.quantities.now) c.sum-p.ensures.0 c.times.ensures.0
