@@ -2,6 +2,7 @@
 --   shift_at_most, dyadic                 a quantity as a significand over a power of two
 --   up_to_largest, each_at                what is asked of each quantity of a list
 --   Left, product_again, product_done     the loop of `by`: what is left of the chain
+--   rounded                               the product divided and rounded up
 -- What a product starts with is in Starts.
 use mathlib.Core.Path.{◌≡◌, refl, sym, ap, ◌∙◌}
 use mathlib.Core.Bool.{Bool, true, false, cond}
@@ -19,10 +20,11 @@ use borrow.Author.Tests.{leb-true, le-leb}
 use Rattle.binary64.specs.Pattern.{exponent_of}
 use Rattle.binary64.specs.Quantity.{whole, whole_at, one, shift_of}
 use Rattle.binary64.proofs.Order.{limit_as_pattern}
-use Rattle.product.specs.Ratio.{Ratio, ◌over◌, ◌·◌, exactly, Same}
+use Rattle.natural.specs.Ceiling.{ceiling}
+use Rattle.product.specs.Ratio.{Ratio, ◌over◌, ◌·◌, exactly, Same, rounded_up}
 use Rattle.product.specs.Chain.{quantity, chain}
 use Rattle.product.specs.Ranges.{UpTo, Each, largest}
-use Rattle.product.proofs.Ratios.{times_assoc, times_one, same_of, same_trans, same_times, same_scaled}
+use Rattle.product.proofs.Ratios.{times_assoc, times_one, same_of, same_trans, same_times, same_scaled, rounded_same}
 use Rattle.product.proofs.Chains.{quantities_positive}
 
 -- ── a quantity as a significand over a power of two
@@ -105,3 +107,12 @@ unfolding chain
 product_done l u v i g h e =
     let n : drop i l ≡ [] = ap (λ (k : ℕ). drop k l) (le_antisymm g h) ∙ drop-length l in
     same_of (sym (times_one v)) refl (rw n at e)
+
+-- ── divided by d and rounded up
+
+pub rounded : (l : List Float) (u depth v p d : ℕ) → 0 < d → Same (v over 2 ^ p) ((u over 2 ^ depth) · chain (map quantity l))
+    → ceiling v (2 ^ p * d) ≡ rounded_up ((u over 2 ^ depth) · chain (map quantity l) · 1 over d)
+rounded l u depth v p d h e =
+    ap (λ (n : ℕ). ceiling n (2 ^ p * d)) (sym (mul-one v))
+    ∙ rounded_same ((v over 2 ^ p) · 1 over d) ((u over 2 ^ depth) · chain (map quantity l) · 1 over d) (mul-pos (pow_pos p) h) (mul-pos (mul-pos (pow_pos depth) (quantities_positive l)) h)
+    (same_scaled (v over 2 ^ p) ((u over 2 ^ depth) · chain (map quantity l)) (1 over d) e)
