@@ -1,6 +1,6 @@
 // Equations 1 to 7 of paper 01 and 8 of request No. 2 in micrograms, each exact and rounded up once.
 // The numbers of an equation are folded into one constant k over a small d; the quantities stand in the equation's order.
-#![tactic(auto)]
+#![tactic(auto, unfolding(crate::specs::Ranges::InRange))]
 
 ghost use Rattle.std.specs.Prelude.{◌≡◌, cond, [], ◌∷◌, ◌≤◌, eqb};
 ghost use Rattle.scenario.specs.declared.Case.TheVariants.{Measured, Unknown, Application, Sanitary, Formulation, Hygiene, Toilets, Plastics};

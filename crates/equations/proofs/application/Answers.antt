@@ -39,10 +39,6 @@ returns-then-head-eq0 c =
     rw (eq-eqb a.head.row 0 c.if-head-eq0.true, ← c.hundredths-lost.ensures.0)
     (figure l _ _ _ _ _ c.product_up.ensures refl (omega arith) (omega arith) (omega arith) (chain_at_most _ limits c.requires.2) (omega arith))
 
-pub of_row-requires : goal.of_row-requires
-unfolding InRange
-of_row-requires c = let h = c.requires.0 in (omega arith, omega arith)
-
 pub overflow_mul-lost-2 : goal.overflow_mul-lost-2
 unfolding InRange
 overflow_mul-lost-2 c =

@@ -41,10 +41,6 @@ returns-then-head-eq0 c =
     (omega arith) (pow_pos 1074) (pow_pos 1074) (quantities_positive xs) (omega arith) (older_positive t (t - 30) (omega arith) (omega arith)) (omega arith) (older_same _ t (t - 30) refl)
     (sum_at_most a.early a.late 100 100 xs (1 ∷ 1000 ∷ []) w.0 w.1.0 w.1.1) (omega arith))
 
-pub of_row-requires : goal.of_row-requires
-unfolding InRange
-of_row-requires c = let h = c.requires.0 in (omega arith, omega arith)
-
 pub sum_up-requires-2 : goal.sum_up-requires-2
 unfolding InRange Within small
 sum_up-requires-2 c =

@@ -34,10 +34,6 @@ returns-then-head-eq0 c =
     rw (eq-eqb a.head.row 0 e)
     (figure l _ _ _ _ _ c.product_up.ensures refl (omega arith) (omega arith) (omega arith) (chain_at_most _ limits c.requires.2) (omega arith))
 
-pub of_row-requires : goal.of_row-requires
-unfolding InRange
-of_row-requires c = let h = c.requires.0 in (omega arith, omega arith)
-
 pub product_up-requires-2 : goal.product_up-requires-2
 unfolding InRange Within small
 product_up-requires-2 c =
