@@ -1,4 +1,6 @@
 // Folded constants: all the numbers of a row's equation as one whole number, in micrograms, so times 10^9. Each table starts with row 1.
+#![tactic(auto, unfolding(crate::specs::Rows::cities, crate::specs::Rows::city_at, crate::specs::Rows::hygienes, crate::specs::Rows::hygiene_at, crate::specs::Constants::numbers, crate::specs::Constants::folded_from))]
+
 ghost use Rattle.std.specs.Prelude.{◌≡◌, true, ◌-◌, ◌≤◌, slice_index, Float};
 ghost use Rattle.equations.specs.Rows.{city_at, hygiene_at};
 ghost use Rattle.product.specs.Chain.{number};

@@ -10,7 +10,8 @@ ghost use Rattle.equations.specs.Emissions.{EmissionsOf};
 ghost use Rattle.equations.specs.Ranges.{Within, InRange};
 
 use crate::constants::{
-    application_constants, consumption_constants, hundredths, measured_constants, of_row, unknown_constants,
+    application_constants, consumption_constants, hundredths, measured_constants, of_row,
+    unknown_constants,
 };
 use kinds::polymers::{Usage, usage_of};
 use product::{product_up, remainder_up, sum_up, three_up};
@@ -26,7 +27,13 @@ pub fn measured(early: f64, late: f64, share: f64, site: Site, head: Head) -> u6
     if head.row == 0 {
         return sum_up(early, late, &[share, site.area], 4000000000000, head.count);
     }
-    sum_up(early, late, &[share], of_row(&measured_constants(), head.row), 73)
+    sum_up(
+        early,
+        late,
+        &[share],
+        of_row(&measured_constants(), head.row),
+        73,
+    )
 }
 
 // 2. City, leaching unknown.
@@ -51,7 +58,11 @@ pub fn application(active: f64, site: Site, head: Head) -> u64
         let quantities = [site.area, site.volume, site.density, active];
         return product_up(&quantities, lost * 10000 * (head.count as u64), 1);
     }
-    product_up(&[active], lost * of_row(&application_constants(), head.row), 1)
+    product_up(
+        &[active],
+        lost * of_row(&application_constants(), head.row),
+        1,
+    )
 }
 
 // T with row 0, otherwise n.
@@ -66,7 +77,12 @@ pub fn sanitary(tonnage: f64, disintegrated: f64, water: f64, head: Head) -> u64
     requires { InRange (Sanitary tonnage disintegrated water) head }
     ensures { result ≡ rounded_up (micrograms (to_water (Sanitary tonnage disintegrated water) head)) }
 {
-    remainder_up(disintegrated, &[tonnage, water], 200000000, count_or(head, 260))
+    remainder_up(
+        disintegrated,
+        &[tonnage, water],
+        200000000,
+        count_or(head, 260),
+    )
 }
 
 #[derive(Clone, Copy)]
@@ -109,7 +125,11 @@ pub fn consumption(
         let quantities = [share, uses, grams, active, penetration];
         return product_up(&quantities, 10000000000, 1);
     }
-    product_up(&[active, penetration], of_row(&consumption_constants(), head.row), 1)
+    product_up(
+        &[active, penetration],
+        of_row(&consumption_constants(), head.row),
+        1,
+    )
 }
 
 // 7. Chemical toilets.
