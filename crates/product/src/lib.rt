@@ -1,5 +1,5 @@
 // Chains of factors in limbs: exact products of quantities, rounded up once at the end.
-#![tactic(auto)]
+#![tactic(auto, unfolding(crate::specs::Ranges::Each))]
 
 ghost use Rattle.std.specs.Prelude.{◌≡◌, [], ◌∷◌, ◌++◌, map, ◌+◌, ◌*◌, ◌^◌, ◌≤◌, ◌<◌, length};
 ghost use Rattle.product.specs.Ratio.{◌over◌, ◌·◌, ◌⊕◌, one_less, exactly, Same, rounded_u64};

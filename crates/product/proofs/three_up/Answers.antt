@@ -1,27 +1,10 @@
 -- The product that the three share starts with the constant.
 use mathlib.Core.Path.{◌∙◌}
 use mathlib.Core.List.{[], ◌∷◌}
-use native.Mathlib.Omega.{arith}
 use lib.Ieee.{Float}
 use lib.Pow.{pow_pos}
-use Rattle.product.specs.Ranges.{Each}
 use Rattle.product.proofs.Starts.{start_shared}
 use Rattle.product.proofs.three_up.Goals as goal
-
-pub branch_up-requires : goal.branch_up-requires
-unfolding Each
-branch_up-requires c =
-    (omega arith, omega arith, omega arith, c.requires.1, c.requires.3.0)
-
-pub branch_up-requires-2 : goal.branch_up-requires-2
-unfolding Each
-branch_up-requires-2 c =
-    (omega arith, omega arith, omega arith, c.requires.1, c.requires.3.1.0)
-
-pub branch_up-requires-3 : goal.branch_up-requires-3
-unfolding Each
-branch_up-requires-3 c =
-    (omega arith, omega arith, omega arith, c.requires.1, c.requires.3.1.1.0)
 
 pub returns : goal.returns
 returns c =
