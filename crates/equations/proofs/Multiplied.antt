@@ -1,18 +1,19 @@
 -- Laws between a chain as the paper prints it and what the code multiplies.
 --   small, within_each                each quantity within its limit is up to the largest limit
 --   product_of, chain_at_most, remainder_at_most, sum_at_most   what the code multiplies is at most the product of the limits
+--   counted                           what holds of T where row is 0, and of what stands in its place otherwise
 --   figure, figure_sum                what the code returns is the exact value rounded up; here a figure is shown to fit 64 bits, from the limits
 use mathlib.Core.Path.{◌≡◌, refl, sym, ap, ◌∙◌}
-use mathlib.Core.Bool.{Bool, true, ◌&&◌}
+use mathlib.Core.Bool.{Bool, true, false, ◌&&◌, cond}
 use mathlib.Core.List.{List, [], ◌∷◌, map}
 use Prim.Native.Nat.{ℕ, ◌+◌, ◌*◌, ◌≤◌, ◌<◌, min}
 use native.Mathlib.Nat.{mul-pos}
 use native.Mathlib.Omega.{arith}
-use lib.Dec.{leb}
+use lib.Dec.{leb, eqb}
 use lib.Ieee.{Float}
-use borrow.Author.Tests.{leb-true}
+use borrow.Author.Tests.{leb-true, eqb-true}
 use Rattle.octets.proofs.Bools.{both}
-use Rattle.product.specs.Ratio.{Ratio, ◌over◌, ◌·◌, ◌⊕◌, one_less, exactly, Same, rounded_up}
+use Rattle.product.specs.Ratio.{Ratio, ◌over◌, ◌·◌, ◌⊕◌, one_less, exactly, Same, rounded_up, rounded_u64}
 use Rattle.product.specs.Chain.{Factor, quantity, less, chain}
 use Rattle.equations.specs.Equations.{microgram, micrograms}
 use Rattle.equations.specs.Constants.{numbers}
@@ -68,6 +69,14 @@ abbrev pub next : List (List Factor) → List Factor
 next [] = []
 next (l ∷ ls) = term ls
 
+-- T with row 0, otherwise n
+pub counted : (P : ℕ → Type 0) (row T n : ℕ) → (row ≡ 0 → P T) → P n → P (cond (eqb row 0) T n)
+counted P row T n f g = go (eqb row 0) refl
+  where
+    go : (b : Bool) → eqb row 0 ≡ b → P (cond b T n)
+    go true e = f (eqb-true row 0 e)
+    go false e = g
+
 abbrev pub largest64 : ℕ
 largest64 = 18446744073709551615
 
@@ -75,7 +84,7 @@ plain : (r n : ℕ) → r ≡ min largest64 n → n ≤ largest64 → r ≡ n
 plain r n e h = omega arith
 
 -- One chain: the code's factors fs are the chain's other factors, and k over d has the value of its numbers.
-pub figure : (l fs : List Factor) (k d m r : ℕ) → r ≡ min largest64 (rounded_up ((k over d) · chain fs)) → chain fs ≡ chain (others l) → 0 < d → 0 < (numbers l).lower
+pub figure : (l fs : List Factor) (k d m r : ℕ) → r ≡ rounded_u64 (k over d · chain fs) → chain fs ≡ chain (others l) → 0 < d → 0 < (numbers l).lower
     → Same (k over d) (microgram · numbers l) → AtMost (chain fs) m → k * m ≤ largest64 * d → r ≡ rounded_up (micrograms (l ∷ []))
 figure l fs k d m r u o h g e a f =
     let q : 0 < (chain fs).lower = rw o (others_positive l) in
@@ -85,7 +94,7 @@ figure l fs k d m r u o h g e a f =
     ∙ ap rounded_up (sym (one_term l))
 
 -- Two chains that share the factors fs and the value of their numbers: before fs one has p and the other q, and the code their sum.
-pub figure_sum : (l m fs : List Factor) (p q : Ratio) (k d b r : ℕ) → r ≡ min largest64 (rounded_up ((k over d) · ((p ⊕ q) · chain fs)))
+pub figure_sum : (l m fs : List Factor) (p q : Ratio) (k d b r : ℕ) → r ≡ rounded_u64 (k over d · ((p ⊕ q) · chain fs))
     → p · chain fs ≡ chain (others l) → q · chain fs ≡ chain (others m) → 0 < d → 0 < p.lower → 0 < q.lower → 0 < (chain fs).lower
     → 0 < (numbers l).lower → 0 < (numbers m).lower → Same (k over d) (microgram · numbers l) → Same (k over d) (microgram · numbers m)
     → AtMost ((p ⊕ q) · chain fs) b → k * b ≤ largest64 * d → r ≡ rounded_up (micrograms (l ∷ m ∷ []))

@@ -6,7 +6,7 @@
 use mathlib.Core.Path.{◌≡◌, ap}
 use mathlib.Core.Bool.{true, ◌&&◌}
 use mathlib.Core.List.{List, [], ◌∷◌}
-use Prim.Native.Nat.{ℕ, zero, suc, ◌+◌, ◌*◌, ◌^◌, ◌≤◌, ◌<◌, min}
+use Prim.Native.Nat.{ℕ, zero, suc, ◌+◌, ◌-◌, ◌*◌, ◌^◌, ◌≤◌, ◌<◌}
 use native.Mathlib.Nat.{add-zero, suc-add, add-suc, le_of_suc-le-suc, le_trans, mul-pos, mul-le-mul_right}
 use native.Mathlib.Omega.{arith}
 use lib.Dec.{leb, eqb}
@@ -14,7 +14,7 @@ use lib.ListN.{length, get_or}
 use lib.Ieee.{Float}
 use borrow.Author.Tests.{leb-true, eqb-true}
 use Rattle.octets.proofs.Bools.{both}
-use Rattle.product.specs.Ratio.{Ratio, ◌over◌, ◌·◌, ◌⊕◌, Same, rounded_up}
+use Rattle.product.specs.Ratio.{Ratio, ◌over◌, ◌·◌, ◌⊕◌, Same, rounded_up, rounded_u64}
 use Rattle.equations.specs.Rows.{city_at}
 use Rattle.product.specs.Chain.{Factor, number, quantity, chain}
 use Rattle.equations.specs.Equations.{application_at, microgram, micrograms}
@@ -46,36 +46,40 @@ folded k d l e =
     let p = leb-true 1 q.lower t.0 in
     record { positive = omega arith; same = eqb-true (k * q.lower) (q.upper * d) t.1 }
 
--- the tables start with row 1
-module _ (equation : ℕ → List (List Factor)) (d : ℕ) (ks : List ℕ) (t : folded_from equation d 1 ks ≡ true) (row n : ℕ) (h : n < length ks) (e : 1 + n ≡ row) where
-  pub constant_small : get_or ks n 0 ≤ 2 ^ 45
-  constant_small = (row_constant equation d ks 1 t n h).0
+-- the row's constant k, of a table that starts with row 1
+module _ (equation : ℕ → List (List Factor)) (d : ℕ) (ks : List ℕ) (t : folded_from equation d 1 ks ≡ true) (row k : ℕ) (e : k ≡ get_or ks (row - 1) 0) (h : 1 ≤ row) (g : row ≤ length ks) where
+  of_entry : (k ≤ 2 ^ 45) × (folds_all k d (equation row) ≡ true)
+  of_entry =
+      let a : 1 + (row - 1) ≡ row = omega arith in
+      rw e (rw a at (row_constant equation d ks 1 t (row - 1) (omega arith)))
 
-  at_row : folds_all (get_or ks n 0) d (equation row) ≡ true
-  at_row = rw e at (row_constant equation d ks 1 t n h).1
+  pub constant_small : k ≤ 2 ^ 45
+  constant_small = of_entry.0
 
-  scaled : (m : ℕ) → 2 ^ 45 * m ≤ largest64 * d → get_or ks n 0 * m ≤ largest64 * d
-  scaled m f = le_trans (mul-le-mul_right {m = get_or ks n 0} {n = 2 ^ 45} m constant_small) f
+  at_row : folds_all k d (equation row) ≡ true
+  at_row = of_entry.1
+
+  scaled : (m : ℕ) → 2 ^ 45 * m ≤ largest64 * d → k * m ≤ largest64 * d
+  scaled m f = le_trans (mul-le-mul_right {m = k} {n = 2 ^ 45} m constant_small) f
 
 -- an equation of one chain
-pub figure_at : (l : ℕ → List Factor) (fs : List Factor) (ks : List ℕ) (row n d m r : ℕ) → r ≡ min largest64 (rounded_up (get_or ks n 0 over d · chain fs))
-    → folded_from (λ i. l i ∷ []) d 1 ks ≡ true → n < length ks → 1 + n ≡ row → chain fs ≡ chain (others (l row)) → 0 < d → AtMost (chain fs) m → 2 ^ 45 * m ≤ largest64 * d
+pub figure_at : (l : ℕ → List Factor) (fs : List Factor) (ks : List ℕ) (row k d m r : ℕ) → r ≡ rounded_u64 (k over d · chain fs) → folded_from (λ i. l i ∷ []) d 1 ks ≡ true
+    → k ≡ get_or ks (row - 1) 0 → 1 ≤ row → row ≤ length ks → chain fs ≡ chain (others (l row)) → 0 < d → AtMost (chain fs) m → 2 ^ 45 * m ≤ largest64 * d
     → r ≡ rounded_up (micrograms (l row ∷ []))
-figure_at l fs ks row n d m r u t h e o hd a f =
-    let g = folded (get_or ks n 0) d (l row) (both (folds (get_or ks n 0) d (l row)) true (at_row (λ i. l i ∷ []) d ks t row n h e)).0 in
-    figure (l row) fs (get_or ks n 0) d m r u o hd g.positive g.same a (scaled (λ i. l i ∷ []) d ks t row n h e m f)
+figure_at l fs ks row k d m r u t e h g o hd a f =
+    let c = folded k d (l row) (both (folds k d (l row)) true (at_row (λ i. l i ∷ []) d ks t row k e h g)).0 in
+    figure (l row) fs k d m r u o hd c.positive c.same a (scaled (λ i. l i ∷ []) d ks t row k e h g m f)
 
 -- an equation of two chains
-pub figure_sum_at : (l m : ℕ → List Factor) (fs : List Factor) (p q : Ratio) (ks : List ℕ) (row n d b r : ℕ) → r ≡ min largest64 (rounded_up (get_or ks n 0 over d · ((p ⊕ q) · chain fs)))
-    → folded_from (λ i. l i ∷ m i ∷ []) d 1 ks ≡ true → n < length ks → 1 + n ≡ row → p · chain fs ≡ chain (others (l row)) → q · chain fs ≡ chain (others (m row))
+pub figure_sum_at : (l m : ℕ → List Factor) (fs : List Factor) (p q : Ratio) (ks : List ℕ) (row k d b r : ℕ) → r ≡ rounded_u64 (k over d · ((p ⊕ q) · chain fs))
+    → folded_from (λ i. l i ∷ m i ∷ []) d 1 ks ≡ true → k ≡ get_or ks (row - 1) 0 → 1 ≤ row → row ≤ length ks → p · chain fs ≡ chain (others (l row)) → q · chain fs ≡ chain (others (m row))
     → 0 < d → 0 < p.lower → 0 < q.lower → 0 < (chain fs).lower → AtMost ((p ⊕ q) · chain fs) b → 2 ^ 45 * b ≤ largest64 * d
     → r ≡ rounded_up (micrograms (l row ∷ m row ∷ []))
-figure_sum_at l m fs p q ks row n d b r u t h e ol om hd hp hq hf a f =
-    let k : ℕ = get_or ks n 0 in
-    let s = both (folds k d (l row)) (folds k d (m row) && true) (at_row (λ i. l i ∷ m i ∷ []) d ks t row n h e) in
+figure_sum_at l m fs p q ks row k d b r u t e h g ol om hd hp hq hf a f =
+    let s = both (folds k d (l row)) (folds k d (m row) && true) (at_row (λ i. l i ∷ m i ∷ []) d ks t row k e h g) in
     let x = folded k d (l row) s.0 in
     let y = folded k d (m row) (both (folds k d (m row)) true s.1).0 in
-    figure_sum (l row) (m row) fs p q k d b r u ol om hd hp hq hf x.positive y.positive x.same y.same a (scaled (λ i. l i ∷ m i ∷ []) d ks t row n h e b f)
+    figure_sum (l row) (m row) fs p q k d b r u ol om hd hp hq hf x.positive y.positive x.same y.same a (scaled (λ i. l i ∷ m i ∷ []) d ks t row k e h g b f)
 
 -- ── the older houses of row 0, t days of which m are theirs
 
@@ -100,16 +104,15 @@ lost_fits h k l m =
     let p : h * k ≤ 5 * k = mul-le-mul_right {m = h} {n = 5} k l in
     omega arith
 
-pub figure_lost : (x : Float) (fs : List Factor) (ks : List ℕ) (row n h r : ℕ) → r ≡ min largest64 (rounded_up ((h * get_or ks n 0) over 1 · chain fs))
-    → folded_from (λ i. application_at x (number 1 100) (city_at i)) 1 1 ks ≡ true → n < length ks → 1 + n ≡ row → h ≤ 5 → chain fs ≡ chain (quantity x ∷ []) → AtMost (chain fs) 1
+pub figure_lost : (x : Float) (fs : List Factor) (ks : List ℕ) (row k h r : ℕ) → r ≡ rounded_u64 ((h * k) over 1 · chain fs) → folded_from (λ i. application_at x (number 1 100) (city_at i)) 1 1 ks ≡ true
+    → k ≡ get_or ks (row - 1) 0 → 1 ≤ row → row ≤ length ks → h ≤ 5 → chain fs ≡ chain (quantity x ∷ []) → AtMost (chain fs) 1
     → r ≡ rounded_up (micrograms (application_at x (number h 100) (city_at row)))
 unfolding numbers others
-figure_lost x fs ks row n h r u t hn e hh o a =
-    let k : ℕ = get_or ks n 0 in
+figure_lost x fs ks row k h r u t e hr gr hh o a =
     let equation : ℕ → List (List Factor) = (λ i. application_at x (number 1 100) (city_at i)) in
     let c = city_at row in
-    let g = folded k 1 (term (equation row)) (both (folds k 1 (term (equation row))) true (at_row equation 1 ks t row n hn e)).0 in
-    let s = constant_small equation 1 ks t row n hn e in
+    let g = folded k 1 (term (equation row)) (both (folds k 1 (term (equation row))) true (at_row equation 1 ks t row k e hr gr)).0 in
+    let s = constant_small equation 1 ks t row k e hr gr in
     let p : h * k ≤ 5 * k = mul-le-mul_right {m = h} {n = 5} k hh in
     figure (term (application_at x (number h 100) c)) fs (h * k) 1 1 r u o (omega arith) g.positive
     (lost_across k h c.area.upper c.area.lower c.volume.upper c.volume.lower c.density.upper c.density.lower c.houses g.same) a (omega arith)

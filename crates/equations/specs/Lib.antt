@@ -3,5 +3,6 @@
 pub mod Rows
 pub mod Equations
 pub mod Ranges
+pub mod Emissions
 pub mod Constants
 pub mod RowExamples

@@ -1,5 +1,7 @@
 // Folded constants: all the numbers of a row's equation as one whole number, in micrograms, so times 10^9. Each table starts with row 1.
-ghost use Rattle.std.specs.Prelude.{◌≡◌, true, ◌≤◌, Float};
+#![tactic(auto, unfolding(crate::specs::Rows::cities, crate::specs::Rows::city_at, crate::specs::Rows::hygienes, crate::specs::Rows::hygiene_at, crate::specs::Constants::numbers, crate::specs::Constants::folded_from))]
+
+ghost use Rattle.std.specs.Prelude.{◌≡◌, true, ◌-◌, ◌≤◌, slice_index, Float};
 ghost use Rattle.equations.specs.Rows.{city_at, hygiene_at};
 ghost use Rattle.product.specs.Chain.{number};
 ghost use Rattle.equations.specs.Equations.{loss, measured_at, unknown_at, application_at, consumption_at};
@@ -56,4 +58,12 @@ pub fn consumption_constants() -> [u64; 5]
     ensures { (a b : Float) → folded_from (λ row. consumption_at a b (hygiene_at row)) 1 1 result ≡ true }
 {
     [8520000000, 12000000000, 4000000000, 1600000000, 15000000000]
+}
+
+// The constant of a row.
+pub fn of_row<const R: usize>(constants: &[u64; R], row: u8) -> u64
+    requires { (1 ≤ row) × (row ≤ R) }
+    ensures { result ≡ slice_index constants.now (row - 1) }
+{
+    constants[usize::from(row) - 1]
 }

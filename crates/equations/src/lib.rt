@@ -1,15 +1,17 @@
 // Equations 1 to 7 of paper 01 and 8 of request No. 2 in micrograms, each exact and rounded up once.
 // The numbers of an equation are folded into one constant k over a small d; the quantities stand in the equation's order.
-#![tactic(auto)]
+#![tactic(auto, unfolding(crate::specs::Ranges::InRange))]
 
-ghost use Rattle.std.specs.Prelude.{◌≡◌, [], ◌∷◌, ◌≤◌};
+ghost use Rattle.std.specs.Prelude.{◌≡◌, cond, [], ◌∷◌, ◌≤◌, eqb};
 ghost use Rattle.scenario.specs.declared.Case.TheVariants.{Measured, Unknown, Application, Sanitary, Formulation, Hygiene, Toilets, Plastics};
 ghost use Rattle.product.specs.Ratio.{rounded_up};
-ghost use Rattle.equations.specs.Equations.{plastics, to_water, to_air, to_soil, micrograms};
+ghost use Rattle.equations.specs.Equations.{plastics, to_water, micrograms};
+ghost use Rattle.equations.specs.Emissions.{EmissionsOf};
 ghost use Rattle.equations.specs.Ranges.{Within, InRange};
 
 use crate::constants::{
-    application_constants, consumption_constants, hundredths, measured_constants, unknown_constants,
+    application_constants, consumption_constants, hundredths, measured_constants, of_row,
+    unknown_constants,
 };
 use kinds::polymers::{Usage, usage_of};
 use product::{product_up, remainder_up, sum_up, three_up};
@@ -23,13 +25,15 @@ pub fn measured(early: f64, late: f64, share: f64, site: Site, head: Head) -> u6
     ensures { result ≡ rounded_up (micrograms (to_water (Measured early late share site) head)) }
 {
     if head.row == 0 {
-        let quantities = [share, site.area];
-        return sum_up(early, late, &quantities, 4000000000000, head.count);
+        return sum_up(early, late, &[share, site.area], 4000000000000, head.count);
     }
-    let quantities = [share];
-    let constants = measured_constants();
-    let at = head.row as usize - 1;
-    sum_up(early, late, &quantities, constants[at], 73)
+    sum_up(
+        early,
+        late,
+        &[share],
+        of_row(&measured_constants(), head.row),
+        73,
+    )
 }
 
 // 2. City, leaching unknown.
@@ -41,10 +45,7 @@ pub fn unknown(active: f64, share: f64, site: Site, head: Head) -> u64
         let quantities = [share, site.area, site.volume, site.density, active];
         return product_up(&quantities, 4000000000, head.count);
     }
-    let quantities = [share, active];
-    let constants = unknown_constants();
-    let at = head.row as usize - 1;
-    product_up(&quantities, constants[at], 73)
+    product_up(&[share, active], of_row(&unknown_constants(), head.row), 73)
 }
 
 // 3. City, application.
@@ -52,18 +53,23 @@ pub fn application(active: f64, site: Site, head: Head) -> u64
     requires { InRange (Application active site) head }
     ensures { result ≡ rounded_up (micrograms (to_water (Application active site) head)) }
 {
+    let lost = hundredths(head.user);
     if head.row == 0 {
         let quantities = [site.area, site.volume, site.density, active];
-        return product_up(
-            &quantities,
-            hundredths(head.user) * 10000 * (head.count as u64),
-            1,
-        );
+        return product_up(&quantities, lost * 10000 * (head.count as u64), 1);
     }
-    let quantities = [active];
-    let constants = application_constants();
-    let at = head.row as usize - 1;
-    product_up(&quantities, hundredths(head.user) * constants[at], 1)
+    product_up(
+        &[active],
+        lost * of_row(&application_constants(), head.row),
+        1,
+    )
+}
+
+// T with row 0, otherwise n.
+fn count_or(head: Head, n: u32) -> u32
+    ensures { result ≡ cond (eqb head.row 0) head.count n }
+{
+    if head.row == 0 { head.count } else { n }
 }
 
 // 4. Sanitary, tonnage.
@@ -71,11 +77,12 @@ pub fn sanitary(tonnage: f64, disintegrated: f64, water: f64, head: Head) -> u64
     requires { InRange (Sanitary tonnage disintegrated water) head }
     ensures { result ≡ rounded_up (micrograms (to_water (Sanitary tonnage disintegrated water) head)) }
 {
-    let quantities = [tonnage, water];
-    if head.row == 0 {
-        return remainder_up(disintegrated, &quantities, 200000000, head.count);
-    }
-    remainder_up(disintegrated, &quantities, 200000000, 260)
+    remainder_up(
+        disintegrated,
+        &[tonnage, water],
+        200000000,
+        count_or(head, 260),
+    )
 }
 
 #[derive(Clone, Copy)]
@@ -95,15 +102,11 @@ pub fn formulation(
     head: Head,
 ) -> Emissions
     requires { InRange (Formulation tonnage source water air soil) head }
-    ensures { (result.water ≡ rounded_up (micrograms (to_water (Formulation tonnage source water air soil) head))) × (result.air ≡ rounded_up (micrograms (to_air (Formulation tonnage source water air soil) head))) × (result.soil ≡ rounded_up (micrograms (to_soil (Formulation tonnage source water air soil) head))) }
+    ensures { EmissionsOf (Formulation tonnage source water air soil) head result }
 {
     let shared = [tonnage, source];
-    let e = three_up(&shared, water, air, soil, 1000000000000, head.count);
-    Emissions {
-        water: e[0],
-        air: e[1],
-        soil: e[2],
-    }
+    let [water, air, soil] = three_up(&shared, water, air, soil, 1000000000000, head.count);
+    Emissions { water, air, soil }
 }
 
 // 6. Hygiene, consumption.
@@ -122,10 +125,11 @@ pub fn consumption(
         let quantities = [share, uses, grams, active, penetration];
         return product_up(&quantities, 10000000000, 1);
     }
-    let quantities = [active, penetration];
-    let constants = consumption_constants();
-    let at = head.row as usize - 1;
-    product_up(&quantities, constants[at], 1)
+    product_up(
+        &[active, penetration],
+        of_row(&consumption_constants(), head.row),
+        1,
+    )
 }
 
 // 7. Chemical toilets.
@@ -141,15 +145,8 @@ pub fn toilets(
     ensures { result ≡ rounded_up (micrograms (to_water (Toilets dose active density disintegrated plant) head)) }
 {
     let quantities = [dose, density, active, plant];
-    if head.row == 0 {
-        return remainder_up(
-            disintegrated,
-            &quantities,
-            2000000000000 * (head.count as u64),
-            3,
-        );
-    }
-    remainder_up(disintegrated, &quantities, 2000000000000, 3)
+    let emptied = count_or(head, 1) as u64;
+    remainder_up(disintegrated, &quantities, 2000000000000 * emptied, 3)
 }
 
 // Q·1000·a·b/T, of one compartment.
@@ -157,14 +154,13 @@ fn plastics_part(tonnes: u32, active: f64, part: f64, days: u32) -> u64
     requires { (tonnes ≤ 23100) × (1 ≤ days) × Within (active ∷ part ∷ []) (1 ∷ 1 ∷ []) }
     ensures { result ≡ rounded_up (micrograms (plastics tonnes active part days)) }
 {
-    let quantities = [active, part];
-    product_up(&quantities, tonnes as u64 * 1000000000000, days)
+    product_up(&[active, part], tonnes as u64 * 1000000000000, days)
 }
 
 // 8. Plastics. Without a usage there is no equation.
 pub fn plastics(active: f64, air: f64, water: f64, head: Head) -> Emissions
     requires { InRange (Plastics active air water) head }
-    ensures { (result.water ≡ rounded_up (micrograms (to_water (Plastics active air water) head))) × (result.air ≡ rounded_up (micrograms (to_air (Plastics active air water) head))) × (result.soil ≡ rounded_up (micrograms (to_soil (Plastics active air water) head))) }
+    ensures { EmissionsOf (Plastics active air water) head result }
 {
     match usage_of(head.row, head.user) {
         Usage::NoUsage => Emissions {

@@ -1,7 +1,7 @@
 -- Laws of products in limbs.
 --   shift_at_most, dyadic                 a quantity as a significand over a power of two
 --   up_to_largest, each_at                what is asked of each quantity of a list
---   Left, product_again, product_done     the loop of `multiply`: what is left of the chain
+--   Left, product_again, product_done     the loop of `by`: what is left of the chain
 --   rounded                               the product divided and rounded up
 -- What a product starts with is in Starts.
 use mathlib.Core.Path.{◌≡◌, refl, sym, ap, ◌∙◌}
@@ -21,7 +21,7 @@ use Rattle.binary64.specs.Pattern.{exponent_of}
 use Rattle.binary64.specs.Quantity.{whole, whole_at, one, shift_of}
 use Rattle.binary64.proofs.Order.{limit_as_pattern}
 use Rattle.natural.specs.Ceiling.{ceiling}
-use Rattle.product.specs.Ratio.{◌over◌, ◌·◌, exactly, Same, rounded_up}
+use Rattle.product.specs.Ratio.{Ratio, ◌over◌, ◌·◌, exactly, Same, rounded_up}
 use Rattle.product.specs.Chain.{quantity, chain}
 use Rattle.product.specs.Ranges.{UpTo, Each, largest}
 use Rattle.product.proofs.Ratios.{times_assoc, times_one, same_of, same_trans, same_times, same_scaled, rounded_same}
@@ -78,30 +78,35 @@ each_at [] i z e h = absurd (omega arith)
 each_at (x ∷ l) zero z e h = e.0
 each_at (x ∷ l) (suc i) z e h = each_at l i z e.1 (le_of_suc-le-suc h)
 
--- ── the loop of `multiply`
+-- ── the loop of `by`
 
--- Of the quantities l: v over 2 ^ p times those left from i on is the whole product, which started with u over 2 ^ depth.
-abbrev pub Left : List Float → ℕ → ℕ → ℕ → ℕ → ℕ → Type 0
-Left l u depth v p i = Same ((v over 2 ^ p) · chain (map quantity (drop i l))) ((u over 2 ^ depth) · chain (map quantity l))
+-- Of the quantities l: the product v times those left from i on is the whole product, which started with u.
+abbrev pub Left : List Float → Ratio → Ratio → ℕ → Type 0
+Left l u v i = Same (v · chain (map quantity (drop i l))) (u · chain (map quantity l))
 
--- one more of the quantities, as s over 2 ^ q
-pub product_again : (l : List Float) (u depth v p i : ℕ) (z : Float) (q s x : ℕ) → i < length l → Left l u depth v p i → Same (exactly (get_or l i z)) (s over 2 ^ q) → x ≡ v * s
-    → Left l u depth x (p + q) (i + 1)
+-- v / 2 ^ p, which is t times m, with q more in the power of two
+deeper : (v p q m : ℕ) (t : Ratio) → v over 2 ^ p ≡ t · m over 1 → v over 2 ^ (p + q) ≡ t · m over 2 ^ q
+deeper v p q m t e =
+    let l : 2 ^ (p + q) ≡ t.lower * 2 ^ q = pow-add 2 p q ∙ ap (λ (n : ℕ). n * 2 ^ q) (ap (λ (r : Ratio). r.lower) e ∙ mul-one t.lower) in
+    λ j. (e j).upper over l j
+
+-- one more of the quantities, as m over 2 ^ q
+pub product_again : (l : List Float) (u t : Ratio) (v p q m i : ℕ) (z : Float) → i < length l → 0 < t.lower → Left l u t i → Same (exactly (get_or l i z)) (m over 2 ^ q)
+    → v over 2 ^ p ≡ t · m over 1 → Left l u (v over 2 ^ (p + q)) (i + 1)
 unfolding chain
-product_again l u depth v p i z q s x h e f g =
+product_again l u t v p q m i z h g e f w =
     let r = chain (map quantity (drop (i + 1) l)) in
     let y = exactly (get_or l i z) in
     let d : drop i l ≡ get_or l i z ∷ drop (i + 1) l = rw add-one (drop-cons l i z h) in
-    same_trans ((x over 2 ^ (p + q)) · r) ((v over 2 ^ p) · (y · r)) ((u over 2 ^ depth) · chain (map quantity l)) (mul-pos (pow_pos p) (mul-pos (pow_pos 1074) (quantities_positive (drop (i + 1) l))))
-    (same_of ((λ j. (g j over pow-add 2 p q j) · r) ∙ sym (times_assoc (v over 2 ^ p) (s over 2 ^ q) r)) refl
-    (same_times (v over 2 ^ p) (v over 2 ^ p) ((s over 2 ^ q) · r) (y · r) refl (same_scaled (s over 2 ^ q) y r (sym f))))
+    same_trans ((v over 2 ^ (p + q)) · r) (t · (y · r)) (u · chain (map quantity l)) (mul-pos g (mul-pos (pow_pos 1074) (quantities_positive (drop (i + 1) l))))
+    (same_of ((λ j. deeper v p q m t w j · r) ∙ sym (times_assoc t (m over 2 ^ q) r)) refl (same_times t t ((m over 2 ^ q) · r) (y · r) refl (same_scaled (m over 2 ^ q) y r (sym f))))
     (rw d at e)
 
-pub product_done : (l : List Float) (u depth v p i : ℕ) → i ≤ length l → length l ≤ i → Left l u depth v p i → Same (v over 2 ^ p) ((u over 2 ^ depth) · chain (map quantity l))
+pub product_done : (l : List Float) (u v : Ratio) (i : ℕ) → i ≤ length l → length l ≤ i → Left l u v i → Same v (u · chain (map quantity l))
 unfolding chain
-product_done l u depth v p i g h e =
+product_done l u v i g h e =
     let n : drop i l ≡ [] = ap (λ (k : ℕ). drop k l) (le_antisymm g h) ∙ drop-length l in
-    same_of (sym (times_one (v over 2 ^ p))) refl (rw n at e)
+    same_of (sym (times_one v)) refl (rw n at e)
 
 -- ── divided by d and rounded up
 

@@ -1,6 +1,6 @@
 -- Laws of what a product starts with, and the constant in it.
---   started, no_limbs, start_constant, start_shared, start_times   a constant, a product, any start times a constant
---   complement_fits, start_remainder, start_sum                    the two wide starts
+--   ended, same_ended, start_constant, start_shared, start_times   a constant, and any start times a constant, divided and rounded up
+--   complement_fits, start_remainder, start_sum        the two wide starts
 use mathlib.Core.Path.{◌≡◌, refl, sym, ap, ◌∙◌}
 use mathlib.Core.List.{List, [], ◌∷◌, ◌++◌, map}
 use Prim.Native.Nat.{ℕ, ◌+◌, ◌-◌, ◌*◌, ◌^◌, ◌≤◌, ◌<◌, min}
@@ -9,64 +9,56 @@ use native.Mathlib.Omega.{arith}
 use lib.Pow.{pow-add, pow_pos}
 use lib.Ieee.{Float, binary64, to_bits}
 use Rattle.binary64.specs.Quantity.{whole, one}
-use Rattle.limbs.specs.Value.{value}
-use Rattle.product.specs.Ratio.{Ratio, ◌over◌, ◌·◌, ◌⊕◌, one_less, exactly, Same, rounded_up}
+use Rattle.product.specs.Ratio.{Ratio, ◌over◌, ◌·◌, ◌⊕◌, one_less, exactly, Same, rounded_up, rounded_u64}
 use Rattle.product.specs.Chain.{quantity, chain}
 use Rattle.product.specs.Ranges.{UpTo}
-use Rattle.product.proofs.Ratios.{times_comm, times_one, same_of, same_trans, same_scaled, same_plus, rounded_same}
+use Rattle.product.proofs.Ratios.{times_assoc, same_of, same_trans, same_scaled, same_plus, rounded_same}
 use Rattle.product.proofs.Chains.{chain_append, quantities_positive}
 
--- k / 1 times q, then the chain c, then 1 / d
-regroup : (k d : ℕ) (q c : Ratio) → (k over 1) · q · c · 1 over d ≡ (k over d) · (q · c)
-regroup k d q c = λ j. upper k q.upper c.upper j over lower d q.lower c.lower j
-  where
-    upper : (k a b : ℕ) → k * a * b * 1 ≡ k * (a * b)
-    upper k a b = omega arith
+-- ── the constant k, divided by d
 
-    lower : (d a b : ℕ) → 1 * a * b * d ≡ d * (a * b)
-    lower d a b = omega arith
+-- the same value over d
+pub same_ended : (p q : Ratio) (d : ℕ) → 0 < d → 0 < p.lower → 0 < q.lower → Same p q → rounded_u64 (p · 1 over d) ≡ rounded_u64 (q · 1 over d)
+same_ended p q d h hp hq e =
+    ap (λ (n : ℕ). min 18446744073709551615 n) (rounded_same (p · 1 over d) (q · 1 over d) (mul-pos hp h) (mul-pos hq h) (same_scaled p q (1 over d) e))
 
-pub started : (l : List Float) (v depth k d : ℕ) (q : Ratio) → 0 < d → 0 < q.lower → Same (v over 2 ^ depth) ((k over 1) · q)
-    → rounded_up ((v over 2 ^ depth) · chain (map quantity l) · 1 over d) ≡ rounded_up ((k over d) · (q · chain (map quantity l)))
-started l v depth k d q h g e =
-    let c = chain (map quantity l) in
-    let hc = quantities_positive l in
-    rounded_same ((v over 2 ^ depth) · c · 1 over d) ((k over 1) · q · c · 1 over d) (mul-pos (mul-pos (pow_pos depth) hc) h) (mul-pos (mul-pos (mul-pos (omega arith) g) hc) h)
-    (same_scaled ((v over 2 ^ depth) · c) ((k over 1) · q · c) (1 over d) (same_scaled (v over 2 ^ depth) ((k over 1) · q) c e))
-    ∙ ap rounded_up (regroup k d q c)
+constant_across : (k d x y : ℕ) → k * x * 1 * (d * y) ≡ k * x * (1 * y * d)
+constant_across k d x y = omega arith
 
-pub no_limbs : value [] ≡ 0
-unfolding value
-no_limbs = refl
+-- the constant first, as s
+pub start_constant : (s c : Ratio) (k d : ℕ) → 0 < d → 0 < c.lower → s ≡ k over 1 → rounded_u64 (s · c · 1 over d) ≡ rounded_u64 (k over d · c)
+start_constant s c k d h hc e =
+    ap (λ (n : ℕ). min 18446744073709551615 n)
+    (ap (λ (r : Ratio). rounded_up (r · c · 1 over d)) e
+    ∙ rounded_same (k over 1 · c · 1 over d) (k over d · c) (mul-pos (mul-pos (omega arith) hc) h) (mul-pos h hc) (constant_across k d c.upper c.lower))
 
--- the constant alone
-pub start_constant : (l : List Float) (v z k d : ℕ) → 0 < d → z ≡ 0 → v ≡ z * 1 + k
-    → rounded_up ((v over 2 ^ 0) · chain (map quantity l) · 1 over d) ≡ rounded_up ((k over d) · chain (map quantity l))
-start_constant l v z k d h ez ev =
-    started l v 0 k d (1 over 1) h (omega arith) (omega arith)
-    ∙ ap (λ (c : Ratio). rounded_up ((k over d) · c)) (times_comm (1 over 1) (chain (map quantity l)) ∙ times_one (chain (map quantity l)))
+-- the same, of a product p that branches off by x
+pub start_shared : (p s : Ratio) (xs : List Float) (x : Float) (k d : ℕ) → 0 < d → 0 < p.lower → s ≡ k over 1 → Same p (s · chain (map quantity xs))
+    → rounded_u64 (p · chain (quantity x ∷ []) · 1 over d) ≡ rounded_u64 (k over d · chain (map quantity xs ++ quantity x ∷ []))
+start_shared p s xs x k d h hp es e =
+    let c = chain (map quantity xs) in
+    let b = chain (quantity x ∷ []) in
+    let g = quantities_positive (x ∷ []) in
+    let hs : 0 < s.lower = rw es (omega arith) in
+    let hc : 0 < (c · b).lower = mul-pos (quantities_positive xs) g in
+    same_ended (p · b) (s · (c · b)) d h (mul-pos hp g) (mul-pos hs hc) (same_of refl (times_assoc s c b) (same_scaled p (s · c) b e))
+    ∙ start_constant s (c · b) k d h hc es
+    ∙ ap (λ (r : Ratio). rounded_u64 (k over d · r)) (chain_append (map quantity xs) (quantity x ∷ []))
 
--- the constant k, which is u, then the quantities xs that are shared, then x
-pub start_shared : (xs : List Float) (v depth u z k d : ℕ) → 0 < d → z ≡ 0 → u ≡ z * 1 + k → Same (v over 2 ^ depth) (u over 2 ^ 0 · chain (map quantity xs))
-    → (x : Float) (r : ℕ) → r ≡ min 18446744073709551615 (rounded_up (v over 2 ^ depth · chain (quantity x ∷ []) · 1 over d))
-    → r ≡ min 18446744073709551615 (rounded_up (k over d · chain (map quantity xs ++ quantity x ∷ [])))
-start_shared xs v depth u z k d h ez eu ev x r e =
-    let c : u ≡ k = omega arith in
-    let q = chain (map quantity xs) in
-    e ∙ ap (λ (n : ℕ). min 18446744073709551615 n)
-    (started (x ∷ []) v depth k d q h (quantities_positive xs) (same_of refl (λ j. sym c j over 1 · q) ev)
-    ∙ ap (λ (t : Ratio). rounded_up (k over d · t)) (chain_append (map quantity xs) (quantity x ∷ [])))
-
--- the constant times a number that has the value q
-constant_times : (n v k D a b : ℕ) → v ≡ n * k → n * b ≡ a * D → v * (1 * b) ≡ k * a * D
-constant_times n v k D a b e f =
-    let r : v * (1 * b) ≡ n * k * (1 * b) = ap (λ (x : ℕ). x * (1 * b)) e in
-    let s : n * b * k ≡ a * D * k = ap (λ (x : ℕ). x * k) f in
+times_across : (a b x y u v k d : ℕ) → a * y ≡ x * b → a * k * u * 1 * (d * (y * v)) ≡ k * (x * u) * (b * 1 * v * d)
+times_across a b x y u v k d e =
+    let f : a * y * (k * u * v * d) ≡ x * b * (k * u * v * d) = ap (λ (n : ℕ). n * (k * u * v * d)) e in
     omega arith
 
-pub start_times : (l : List Float) (n v depth k d : ℕ) (q : Ratio) → 0 < d → 0 < q.lower → v ≡ n * k → Same (n over 2 ^ depth) q
-    → rounded_up ((v over 2 ^ depth) · chain (map quantity l) · 1 over d) ≡ rounded_up ((k over d) · (q · chain (map quantity l)))
-start_times l n v depth k d q h g e f = started l v depth k d q h g (constant_times n v k (2 ^ depth) q.upper q.lower e f)
+-- what has the value q first, as s, then the constant
+pub start_times : (t s q c : Ratio) (k d : ℕ) → 0 < d → 0 < t.lower → 0 < q.lower → 0 < c.lower → Same s q → t ≡ s · k over 1
+    → rounded_u64 (t · c · 1 over d) ≡ rounded_u64 (k over d · (q · c))
+start_times t s q c k d h ht hq hc es et =
+    ap (λ (n : ℕ). min 18446744073709551615 n)
+    (rounded_same (t · c · 1 over d) (k over d · (q · c)) (mul-pos (mul-pos ht hc) h) (mul-pos h (mul-pos hq hc))
+    (same_of (λ j. et j · c · 1 over d) refl (times_across s.upper s.lower q.upper q.lower c.upper c.lower k d es)))
+
+-- ── the wide starts
 
 -- 1 less a quantity m / 2 ^ t
 at_most_one : (w T m P : ℕ) → 0 < T → w ≤ 1 * T → w * P ≡ m * T → m ≤ P

@@ -2,3 +2,4 @@
 pub mod Ratio
 pub mod Chain
 pub mod Ranges
+pub mod Held

@@ -1,6 +1,6 @@
 -- Exact values as fractions (paper 01, 'A case, 64 bytes'): upper over lower, where lower is not 0.
 -- That it is not, of the values that the figures come from, is a theorem of crate emission (`lower_not_zero`).
-use Rattle.std.specs.Prelude.{◌≡◌, ℕ, ◌+◌, ◌-◌, ◌*◌, Float}
+use Rattle.std.specs.Prelude.{◌≡◌, ℕ, ◌+◌, ◌-◌, ◌*◌, min, Float}
 use Rattle.std.specs.Float.{binary64}
 use Rattle.std.specs.Float.Ieee.{to_bits}
 use Rattle.natural.specs.Ceiling.{ceiling}
@@ -37,3 +37,7 @@ Same p q = p.upper * q.lower ≡ q.upper * p.lower
 -- the least whole number that is not below
 abbrev pub rounded_up : Ratio → ℕ
 rounded_up p = ceiling p.upper p.lower
+
+-- the same in a u64: its largest where that is smaller
+abbrev pub rounded_u64 : Ratio → ℕ
+rounded_u64 p = min 18446744073709551615 (rounded_up p)

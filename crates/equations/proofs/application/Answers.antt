@@ -1,7 +1,7 @@
 -- Row 0: the chain with the case's own quantities; otherwise the row's constant, by the table; both times the hundredths lost.
 use mathlib.Core.Path.{refl}
 use mathlib.Core.List.{List, [], ◌∷◌}
-use Prim.Native.Nat.{ℕ, ◌-◌, ◌*◌, ◌≤◌}
+use Prim.Native.Nat.{ℕ, ◌*◌, ◌≤◌}
 use native.Mathlib.Omega.{arith}
 use borrow.Author.Tests.{eq-eqb, ne_eqb}
 use native.Mathlib.Nat.{mul-le-mul_right}
@@ -18,11 +18,11 @@ use Rattle.equations.proofs.application.Goals as goal
 abbrev limits : List ℕ
 limits = 1000 ∷ 100 ∷ 5000 ∷ 1 ∷ []
 
-pub overflow_mul-hundredths-then-head-eq0 : goal.overflow_mul-hundredths-then-head-eq0
+pub overflow_mul-lost-then-head-eq0 : goal.overflow_mul-lost-then-head-eq0
 unfolding InRange
-overflow_mul-hundredths-then-head-eq0 c =
+overflow_mul-lost-then-head-eq0 c =
     let t = c.requires.1 in
-    let p : c.hundredths.result * c.args.head.count ≤ 5 * c.args.head.count = mul-le-mul_right _ c.hundredths.ensures.1 in
+    let p : c.hundredths-lost.result * c.args.head.count ≤ 5 * c.args.head.count = mul-le-mul_right _ c.hundredths-lost.ensures.1 in
     record { fits = omega arith }
 
 pub product_up-requires : goal.product_up-requires
@@ -34,23 +34,19 @@ unfolding InRange emitted numbers others product_of
 returns-then-head-eq0 c =
     let a = c.args in
     let t = c.requires.1 in
-    let p : c.hundredths.result * a.head.count ≤ 5 * a.head.count = mul-le-mul_right _ c.hundredths.ensures.1 in
-    let l = term (application a.active (quantity a.site.area) (quantity a.site.volume) (quantity a.site.density) (number c.hundredths.result 100) a.head.count) in
-    rw (eq-eqb a.head.row 0 c.if-head-eq0.true, ← c.hundredths.ensures.0)
+    let p : c.hundredths-lost.result * a.head.count ≤ 5 * a.head.count = mul-le-mul_right _ c.hundredths-lost.ensures.1 in
+    let l = term (application a.active (quantity a.site.area) (quantity a.site.volume) (quantity a.site.density) (number c.hundredths-lost.result 100) a.head.count) in
+    rw (eq-eqb a.head.row 0 c.if-head-eq0.true, ← c.hundredths-lost.ensures.0)
     (figure l _ _ _ _ _ c.product_up.ensures refl (omega arith) (omega arith) (omega arith) (chain_at_most _ limits c.requires.2) (omega arith))
 
-pub bounds-constants-at : goal.bounds-constants-at
+pub overflow_mul-lost-2 : goal.overflow_mul-lost-2
 unfolding InRange
-bounds-constants-at c = let h = c.requires.0 in omega arith
-
-pub overflow_mul-hundredths-2 : goal.overflow_mul-hundredths-2
-unfolding InRange
-overflow_mul-hundredths-2 c =
+overflow_mul-lost-2 c =
     let n = c.if-head-eq0.false in
     let h = c.requires.0 in
-    let e = c.application_constants-constants.ensures c.args.active in
-    let m = constant_small _ 1 _ e c.args.head.row (c.args.head.row - 1) (omega (arith, c.application_constants-constants.type_inv)) (omega arith) in
-    record { fits = lost_fits _ _ c.hundredths-2.ensures.1 m }
+    let e = c.application_constants.ensures c.args.active in
+    let m = constant_small _ 1 _ e c.args.head.row _ c.of_row.ensures (omega arith) (omega (arith, c.application_constants.type_inv)) in
+    record { fits = lost_fits _ _ c.hundredths-lost.ensures.1 m }
 
 pub product_up-requires-2 : goal.product_up-requires-2
 unfolding InRange Within small
@@ -64,6 +60,6 @@ returns c =
     let a = c.args in
     let n = c.if-head-eq0.false in
     let h = c.requires.0 in
-    rw (ne_eqb a.head.row 0 n, ← c.hundredths-2.ensures.0)
-    (figure_lost a.active _ _ a.head.row _ _ _ c.product_up-2.ensures (c.application_constants-constants.ensures a.active)
-    (omega (arith, c.application_constants-constants.type_inv)) (omega arith) c.hundredths-2.ensures.1 refl (chain_at_most (a.active ∷ []) (1 ∷ []) c.requires.2.1.1.1))
+    rw (ne_eqb a.head.row 0 n, ← c.hundredths-lost.ensures.0)
+    (figure_lost a.active _ _ a.head.row _ _ _ c.product_up-2.ensures (c.application_constants.ensures a.active) c.of_row.ensures
+    (omega arith) (omega (arith, c.application_constants.type_inv)) c.hundredths-lost.ensures.1 refl (chain_at_most (a.active ∷ []) (1 ∷ []) c.requires.2.1.1.1))

@@ -30,10 +30,6 @@ returns-then-head-eq0 c =
     rw (eq-eqb a.head.row 0 c.if-head-eq0.true)
     (figure l _ _ _ _ _ c.product_up.ensures refl (omega arith) (omega arith) refl (chain_at_most _ limits c.requires.1) (omega arith))
 
-pub bounds-constants-at : goal.bounds-constants-at
-unfolding InRange
-bounds-constants-at c = let h = c.requires.0 in omega arith
-
 pub product_up-requires-2 : goal.product_up-requires-2
 unfolding InRange Within small
 product_up-requires-2 c =
@@ -47,5 +43,5 @@ returns c =
     let n = c.if-head-eq0.false in
     let h = c.requires.0 in
     rw (ne_eqb a.head.row 0 n)
-    (figure_at (λ row. term (consumption_at a.active a.penetration (hygiene_at row))) _ _ a.head.row _ _ _ _ c.product_up-2.ensures (c.consumption_constants-constants.ensures a.active a.penetration)
-    (omega (arith, c.consumption_constants-constants.type_inv)) (omega arith) refl (omega arith) (chain_at_most (a.active ∷ a.penetration ∷ []) (1 ∷ 1 ∷ []) c.requires.1.1.1.1) (omega arith))
+    (figure_at (λ row. term (consumption_at a.active a.penetration (hygiene_at row))) _ _ a.head.row _ _ _ _ c.product_up-2.ensures (c.consumption_constants.ensures a.active a.penetration) c.of_row.ensures
+    (omega arith) (omega (arith, c.consumption_constants.type_inv)) refl (omega arith) (chain_at_most (a.active ∷ a.penetration ∷ []) (1 ∷ 1 ∷ []) c.requires.1.1.1.1) (omega arith))

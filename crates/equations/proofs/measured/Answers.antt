@@ -41,10 +41,6 @@ returns-then-head-eq0 c =
     (omega arith) (pow_pos 1074) (pow_pos 1074) (quantities_positive xs) (omega arith) (older_positive t (t - 30) (omega arith) (omega arith)) (omega arith) (older_same _ t (t - 30) refl)
     (sum_at_most a.early a.late 100 100 xs (1 ∷ 1000 ∷ []) w.0 w.1.0 w.1.1) (omega arith))
 
-pub bounds-constants-at : goal.bounds-constants-at
-unfolding InRange
-bounds-constants-at c = let h = c.requires.0 in omega arith
-
 pub sum_up-requires-2 : goal.sum_up-requires-2
 unfolding InRange Within small
 sum_up-requires-2 c =
@@ -61,7 +57,7 @@ returns c =
     let m : ℕ → List (List Factor) = (λ row. measured_at a.early a.late a.share (city_at row)) in
     rw (ne_eqb a.head.row 0 n)
     (figure_sum_at (λ row. term (m row)) (λ row. next (m row)) (quantity a.share ∷ []) (exactly a.early) (exactly a.late) _ a.head.row _ _ 200 _ c.sum_up-2.ensures
-    (c.measured_constants-constants.ensures a.early a.late a.share) (omega (arith, c.measured_constants-constants.type_inv)) (omega arith)
+    (c.measured_constants.ensures a.early a.late a.share) c.of_row.ensures (omega arith) (omega (arith, c.measured_constants.type_inv))
     (sym (pull (quantity a.share ∷ []) (quantity a.early) [])) (sym (pull (quantity a.share ∷ []) (quantity a.late) []))
     (omega arith) (pow_pos 1074) (pow_pos 1074) (quantities_positive (a.share ∷ []))
     (sum_at_most a.early a.late 100 100 (a.share ∷ []) (1 ∷ []) w.0 w.1.0 (w.1.1.0, tt)) (omega arith))

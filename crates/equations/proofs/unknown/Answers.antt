@@ -34,10 +34,6 @@ returns-then-head-eq0 c =
     rw (eq-eqb a.head.row 0 e)
     (figure l _ _ _ _ _ c.product_up.ensures refl (omega arith) (omega arith) (omega arith) (chain_at_most _ limits c.requires.2) (omega arith))
 
-pub bounds-constants-at : goal.bounds-constants-at
-unfolding InRange
-bounds-constants-at c = let h = c.requires.0 in omega arith
-
 pub product_up-requires-2 : goal.product_up-requires-2
 unfolding InRange Within small
 product_up-requires-2 c =
@@ -52,4 +48,4 @@ returns c =
     let w = c.requires.2 in
     let h = c.requires.0 in
     rw (ne_eqb a.head.row 0 n)
-    (figure_at (λ row. term (unknown_at a.active a.share (city_at row))) _ _ a.head.row _ _ _ _ c.product_up-2.ensures (c.unknown_constants-constants.ensures a.active a.share) (omega (arith, c.unknown_constants-constants.type_inv)) (omega arith) refl (omega arith) (chain_at_most (a.share ∷ a.active ∷ []) (1 ∷ 1 ∷ []) (w.0, (w.1.1.1.1.0, tt))) (omega arith))
+    (figure_at (λ row. term (unknown_at a.active a.share (city_at row))) _ _ a.head.row _ _ _ _ c.product_up-2.ensures (c.unknown_constants.ensures a.active a.share) c.of_row.ensures (omega arith) (omega (arith, c.unknown_constants.type_inv)) refl (omega arith) (chain_at_most (a.share ∷ a.active ∷ []) (1 ∷ 1 ∷ []) (w.0, (w.1.1.1.1.0, tt))) (omega arith))

@@ -1,9 +1,0 @@
--- One computed test over the whole table.
-use mathlib.Core.Path.{refl}
-use Rattle.equations.specs.Rows.{cities, city_at}
-use Rattle.equations.specs.Constants.{numbers, folded_from}
-use Rattle.equations.proofs.constants.unknown_constants.Goals as goal
-
-pub returns : goal.returns
-unfolding cities city_at numbers folded_from
-returns s a c = refl
