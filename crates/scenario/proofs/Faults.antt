@@ -1,8 +1,9 @@
--- Laws of the faults found: `folded` (what a fold gives), `faults_by_limits` (those of the six, by a fold over limits and patterns), `refused_by_faults` (refusals 8 to 11 by them), `faults_numbers`.
+-- Laws of the faults found: `folded` (what a fold gives),
+-- `faults_by_limits` (those of the six, by a fold over limits and patterns), `told_first` (refusals 8 to 11 by them), `faults_numbers`.
 -- The rule of a limit held as a pattern is in crate kinds, `Limits`.
-use mathlib.Core.Path.{◌≡◌, refl, ◌∙◌, ap}
-use mathlib.Core.Bool.{false, not, ◌&&◌, cond}
-use mathlib.Core.List.{List, [], ◌∷◌}
+use mathlib.Core.Path.{◌≡◌, refl, sym, ◌∙◌, ap}
+use mathlib.Core.Bool.{false, not, ◌&&◌}
+use mathlib.Core.List.{List, [], ◌∷◌, ◌++◌}
 use Prim.Native.Nat.{ℕ, zero, suc}
 use lib.Dec.{leb, eqb}
 use lib.ListN.{length}
@@ -14,12 +15,13 @@ use Rattle.std.specs.List.{FoldsTo, fold, zip}
 use Rattle.std.proofs.lemmas.Fn.{fold_over}
 use Rattle.std.proofs.lemmas.Grind.{fold-append}
 use Rattle.std.proofs.lemmas.Iterator.{YieldsList}
-use Rattle.kinds.specs.Refusal.{first_of}
+use Rattle.kinds.specs.Refusal.{◌when◌, first_of}
+use Rattle.kinds.proofs.Refusals.{none_holds}
 use Rattle.kinds.specs.Case.{kind_at, listing_at, any_not_number, not_zero_bytes, over_limit, sum_over, quantity_refusals}
 use Rattle.kinds.specs.Patterns.{at, limit_patterns}
 use Rattle.kinds.proofs.Six.{six_are, six_same}
 use Rattle.kinds.proofs.Limits.{limits_right, not_zero_by_limit, over_by_limit}
-use Rattle.scenario.specs.Faults.{add_faults, faults_of}
+use Rattle.scenario.specs.Faults.{add_faults, told_of, faults_of}
 use Rattle.scenario.specs.declared.quantities.Faults.{Faults}
 
 -- ── of all six
@@ -61,11 +63,10 @@ faults_by_limits k row ms ps e m n =
 
 -- ── refusals 8 to 11 by the faults of six
 
-pub refused_by_faults : (k row : ℕ) (p : ℕ → ℕ) (f : Faults) → f ≡ faults_of k row p
-    → first_of (quantity_refusals k row p) ≡ cond f.invalid 8 (cond f.stray 9 (cond f.over 10 (cond (sum_over k p) 11 0)))
+pub told_first : (k row : ℕ) (p : ℕ → ℕ) (f : Faults) → f ≡ faults_of k row p → first_of (told_of f ++ (11 when sum_over k p) ∷ []) ≡ first_of (quantity_refusals k row p)
 unfolding faults_of
-refused_by_faults k row p f e = rw e
+told_first k row p f e = rw e
 
-pub faults_numbers : (k row : ℕ) (p : ℕ → ℕ) (f : Faults) → f ≡ faults_of k row p → f.invalid ≡ false → any_not_number p ≡ false
+pub faults_numbers : (k row : ℕ) (p : ℕ → ℕ) {f : Faults} → f ≡ faults_of k row p → 0 ≡ first_of (told_of f) → any_not_number p ≡ false
 unfolding faults_of
-faults_numbers k row p f e h = rw e at h
+faults_numbers k row p {f} e h = rw e at (none_holds (told_of f) refl (sym h) 0)

@@ -160,8 +160,9 @@ pub fn decode(case: &[u8]) -> Result<Accepted, Refusal>
     };
     let kind = bytes[0];
     let head = fields::head_at(bytes);
+    let patterns = quantities::patterns_at(bytes);
     fields::head_refusal(kind, head)?;
-    let quantities = quantities::quantities_of(kind, head.row, &quantities::patterns_at(bytes))?;
+    let quantities = quantities::quantities_of(kind, head.row, &patterns)?;
     Ok(Accepted {
         head,
         case: case_with(kind, quantities),

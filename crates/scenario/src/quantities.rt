@@ -6,7 +6,7 @@ ghost use Rattle.kinds.specs.Refusal.{first_of};
 ghost use Rattle.kinds.specs.Number.{refused};
 ghost use Rattle.kinds.specs.Case.{of_six, quantity_of, sum_within, summed_of, quantity_refusals};
 ghost use Rattle.kinds.specs.Patterns.{patterns_of, at};
-ghost use Rattle.scenario.specs.Faults.{add_faults, faults_of};
+ghost use Rattle.scenario.specs.Faults.{add_faults, told_of, faults_of};
 
 use binary64::pattern::{is_unsigned_finite, quantity_of};
 use kinds::limits_of;
@@ -40,6 +40,22 @@ impl Faults {
             over: self.over | (!unlisted & !(pattern <= limit)),
         }
     }
+
+    // The first of refusals 8, 9 and 10 that holds.
+    fn told(self) -> Result<(), Refusal>
+        ensures { refused result ≡ first_of (told_of self) }
+    {
+        if self.invalid {
+            return Err(Refusal::NotNumber);
+        }
+        if self.stray {
+            return Err(Refusal::Unlisted);
+        }
+        if self.over {
+            return Err(Refusal::OverLimit);
+        }
+        Ok(())
+    }
 }
 
 // Of any of the six.
@@ -70,22 +86,13 @@ fn sum_over(kind: u8, quantities: [f64; 6]) -> bool
     }
 }
 
-// The quantities, all of which are numbers, or the first of refusals 8 to 11 that holds.
+// The quantities, or the first of refusals 8 to 11 that holds.
 pub fn quantities_of(kind: u8, row: u8, p: &[u64; 6]) -> Result<[f64; 6], Refusal>
     ensures refusal { refused result ≡ first_of (quantity_refusals kind row (at p.now)) }
     ensures value { IfOk result (λ q. q ≡ of_six (λ i. quantity_of (at p.now i))) }
 {
-    let faults = faults_of(kind, row, p);
-    if faults.invalid {
-        return Err(Refusal::NotNumber);
-    }
+    faults_of(kind, row, p).told()?;
     let quantities = array::from_fn(|i| quantity_of(p[i]));
-    if faults.stray {
-        return Err(Refusal::Unlisted);
-    }
-    if faults.over {
-        return Err(Refusal::OverLimit);
-    }
     if sum_over(kind, quantities) {
         return Err(Refusal::SumOver);
     }

@@ -33,7 +33,7 @@ returns-in_err-quantities c =
     let none = rw w.same at c.in_ok-head_refusal.ensures in
     let told = rw w.same at c.in_err-quantities.ensures.refusal in
     decoded_said b (e.1 ∙ ap Err e.2 ∙ sym (decoded_refused b r (by_quantities b c.head_at-head.result w.long (rw w.same at c.head_at-head.ensures)
-    c.patterns_at.result (number r) (rw w.same at c.patterns_at.ensures) none told)))
+    c.patterns_at-patterns.result (number r) (rw w.same at c.patterns_at-patterns.ensures) none told)))
 
 pub returns : goal.returns
 unfolding case_of_patterns
@@ -41,8 +41,8 @@ returns c =
     let b = c.args.case.now in
     let w = c.in-Some.ensures.cases in
     let head = rw w.same at c.head_at-head.ensures in
-    let patterns = rw w.same at c.patterns_at.ensures in
+    let patterns = rw w.same at c.patterns_at-patterns.ensures in
     let none = rw w.same at c.in_ok-head_refusal.ensures in
     let none_of_six = rw w.same at c.in_ok-quantities.ensures.refusal in
-    let z = by_quantities b c.head_at-head.result w.long head c.patterns_at.result 0 patterns none none_of_six in
+    let z = by_quantities b c.head_at-head.result w.long head c.patterns_at-patterns.result 0 patterns none none_of_six in
     decoded_said b (rw (c.case_with.ensures, c.in_ok-quantities.ensures.value, head, patterns, w.same) (sym (decoded_accepted b z)))
