@@ -95,7 +95,7 @@ pub fn work_out_into(case: &[u8], figures: &mut [u64; 4]) -> Result<(), Refusal>
     // Zeros are written beside a refusal alone: an accepted case is faster without.
     match scenario::decode(case) {
         Err(refusal) => {
-            *figures = [0, 0, 0, 0];
+            *figures = [0; 4];
             Err(refusal)
         }
         Ok(Accepted { head, case }) => {
@@ -109,7 +109,7 @@ pub fn work_out_into(case: &[u8], figures: &mut [u64; 4]) -> Result<(), Refusal>
 pub fn work_out(case: &[u8]) -> Result<[u64; 4], Refusal>
     ensures { (refused result ≡ refusal_of case.now) × (figures_in result ≡ figures_of case.now) }
 {
-    let mut figures = [0, 0, 0, 0];
+    let mut figures = [0; 4];
     work_out_into(case, &mut figures)?;
     Ok(figures)
 }
