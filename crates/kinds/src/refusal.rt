@@ -25,7 +25,8 @@ pub enum Refusal {
 }
 
 impl Refusal {
-    // Not inlined: only what is refused calls it, and the way of an accepted case stays short.
+    // Only what is refused calls it: the way of an accepted case stays short.
+    #[cold]
     #[inline(never)]
     pub fn number(self) -> u32
         ensures { result ≡ number self }
