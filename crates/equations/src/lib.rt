@@ -13,7 +13,7 @@ use crate::constants::{
     application_constants, consumption_constants, hundredths, measured_constants, of_row,
     unknown_constants,
 };
-use kinds::polymers::{Usage, usage_of};
+use kinds::polymers::usage_of;
 use product::{product_up, remainder_up, sum_up, three_up};
 use scenario::{Head, Site};
 
@@ -163,12 +163,12 @@ pub fn plastics(active: f64, air: f64, water: f64, head: Head) -> Emissions
     ensures { EmissionsOf (Plastics active air water) head result }
 {
     match usage_of(head.row, head.user) {
-        Usage::NoUsage => Emissions {
+        None => Emissions {
             water: 0,
             air: 0,
             soil: 0,
         },
-        Usage::Tonnes(tonnes) => Emissions {
+        Some(tonnes) => Emissions {
             water: plastics_part(tonnes, active, water, head.count),
             air: plastics_part(tonnes, active, air, head.count),
             soil: 0,

@@ -25,6 +25,9 @@ pub enum Refusal {
 }
 
 impl Refusal {
+    // Only what is refused calls it: the way of an accepted case stays short.
+    #[cold]
+    #[inline(never)]
     pub fn number(self) -> u32
         ensures { result ≡ number self }
     {
