@@ -5,7 +5,6 @@ use mathlib.Core.Path.{◌≡◌, refl, sym, ap, ◌∙◌}
 use mathlib.Core.Bool.{Bool, true, false, cond}
 use mathlib.Core.List.{List, [], ◌∷◌, map}
 use Prim.Native.Nat.{ℕ}
-use native.Mathlib.Omega.{arith}
 use lib.Dec.{eqb}
 use lib.ListN.{get_or, get_or-map}
 use borrow.Author.Tests.{eqb-true, eqb-false, eq-eqb, ne_eqb}
@@ -14,29 +13,36 @@ use Rattle.kinds.specs.Case.{route_of, refusal_of}
 use Rattle.scenario.specs.Decoding.{case_of, head_of, decoded}
 use Rattle.scenario.specs.declared.Case.{Case}
 use Rattle.scenario.specs.declared.Head.{Head}
-use Rattle.scenario.specs.declared.Decoded.TheVariants.{Accepted, Refused}
+use Rattle.scenario.specs.declared.Accepted.{Accepted}
+use Rattle.std.proofs.Common.{Result, Ok, Err}
+use Rattle.kinds.specs.declared.refusal.Refusal.{Refusal}
+use Rattle.kinds.specs.Number.{number, refusal_at}
+use Rattle.kinds.proofs.Numbers.{refusal_named}
 use Rattle.product.specs.Ratio.{◌over◌, rounded_up}
 use Rattle.equations.specs.Equations.{to_water, to_air, to_soil, micrograms}
 use Rattle.emission.specs.Figures.{exact_values, figures_of}
 
 -- ── the answer of `decode`
 
-pub accepted_is : (b : List ℕ) (h : Head) (k : Case) → decoded b ≡ Accepted h k → (refusal_of b ≡ 0) × (head_of b ≡ h) × (case_of b ≡ k)
+pub accepted_is : (b : List ℕ) (a : Accepted) → decoded b ≡ Ok a → (refusal_of b ≡ 0) × (head_of b ≡ a.head) × (case_of b ≡ a.case)
 unfolding decoded
-accepted_is b h k = go (eqb (refusal_of b) 0) refl
+accepted_is b a = go (eqb (refusal_of b) 0) refl
   where
-    go : (t : Bool) → eqb (refusal_of b) 0 ≡ t → cond t (Accepted (head_of b) (case_of b)) (Refused (refusal_of b)) ≡ Accepted h k
-        → (refusal_of b ≡ 0) × (head_of b ≡ h) × (case_of b ≡ k)
+    go : (t : Bool) → eqb (refusal_of b) 0 ≡ t → cond {A = Result Accepted Refusal} t (Ok (record { head = head_of b; case = case_of b })) (Err (refusal_at (refusal_of b))) ≡ Ok a
+        → (refusal_of b ≡ 0) × (head_of b ≡ a.head) × (case_of b ≡ a.case)
     go true e a = (eqb-true (refusal_of b) 0 e, cc, cc)
-    go false e a = let z : ◌≡◌ {A = ℕ} 0 1 = cc in absurd (omega arith)
+    go false e a = cc
 
-pub refused_is : (b : List ℕ) (n : ℕ) → decoded b ≡ Refused n → (n ≡ refusal_of b) × (refusal_of b ≡ 0 → ⊥)
+pub refused_is : (b : List ℕ) (r : Refusal) → decoded b ≡ Err r → (number r ≡ refusal_of b) × (refusal_of b ≡ 0 → ⊥)
 unfolding decoded
-refused_is b n = go (eqb (refusal_of b) 0) refl
+refused_is b r = go (eqb (refusal_of b) 0) refl
   where
-    go : (t : Bool) → eqb (refusal_of b) 0 ≡ t → cond t (Accepted (head_of b) (case_of b)) (Refused (refusal_of b)) ≡ Refused n → (n ≡ refusal_of b) × (refusal_of b ≡ 0 → ⊥)
-    go true e a = let z : ◌≡◌ {A = ℕ} 0 1 = cc in absurd (omega arith)
-    go false e a = (cc, eqb-false (refusal_of b) 0 e)
+    go : (t : Bool) → eqb (refusal_of b) 0 ≡ t → cond {A = Result Accepted Refusal} t (Ok (record { head = head_of b; case = case_of b })) (Err (refusal_at (refusal_of b))) ≡ Err r → (number r ≡ refusal_of b) × (refusal_of b ≡ 0 → ⊥)
+    go true e a = cc
+    go false e a =
+        let some = eqb-false (refusal_of b) 0 e in
+        let named : refusal_at (refusal_of b) ≡ r = cc in
+        (sym (ap number named) ∙ refusal_named b some, some)
 
 -- ── its figures
 

@@ -14,8 +14,7 @@ use lib.ListN.{get_or}
 use borrow.Author.Tests.{eqb-true}
 use Rattle.kinds.specs.Case.{route_of}
 use Rattle.kinds.specs.Polymers.{usage_at}
-use Rattle.kinds.specs.declared.polymers.Usage.{Usage}
-use Rattle.kinds.specs.declared.polymers.Usage.TheVariants.{NoUsage, Tonnes}
+use Rattle.std.proofs.Common.{Option, Some, None}
 use Rattle.kinds.proofs.UsageTable.{most_used, usage_small}
 use Rattle.scenario.specs.Decoding.{case_of, head_of}
 use Rattle.product.specs.Ratio.{Ratio, ◌over◌}
@@ -42,9 +41,9 @@ with_loss P user f g h = go (eqb user 1)
 pub with_usage : (P : List (List Factor) → Type 0) (row user : ℕ) (a x : Float) (t : ℕ) → P [] → ((q : ℕ) → q ≤ most_used → P (plastics q a x t)) → P (plastics_at (usage_at row user) a x t)
 with_usage P row user a x t none some = go (usage_at row user) refl
   where
-    go : (u : Usage) → usage_at row user ≡ u → P (plastics_at u a x t)
-    go NoUsage e = none
-    go (Tonnes q) e = some q (usage_small row user q e)
+    go : (u : Option ℕ) → usage_at row user ≡ u → P (plastics_at u a x t)
+    go None e = none
+    go (Some q) e = some q (usage_small row user q e)
 
 -- of the emissions to water, air and soil
 abbrev pub OfAll : (List (List Factor) → Type 0) → Emitted → Type 0

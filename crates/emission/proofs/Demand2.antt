@@ -21,7 +21,8 @@ use Rattle.kinds.specs.Case.{refusals, refusal_of}
 use Rattle.kinds.proofs.Refusals.{refusal_order}
 use Rattle.kinds.proofs.Ranges.{WithinRanges, accepted_exactly}
 use Rattle.emission.specs.Called.{Called}
-use Rattle.emission.specs.Figures.{exact_values, figures_of, WithinBounds, margin}
+use Rattle.kinds.specs.Number.{refused}
+use Rattle.emission.specs.Figures.{exact_values, figures_of, figures_in, WithinBounds, margin}
 use Rattle.emission.proofs.Accepted.{figures_exact, figure_rounded, figures_refused}
 use Rattle.emission.proofs.Positive.{lower_not_zero}
 use Rattle.emission.proofs.work_out.Kinds as work_out_kinds
@@ -68,28 +69,28 @@ met = work_out_met.met
 abbrev pub bytes : WorkOutCall → List ℕ
 bytes c = c.args.0.now
 
-pub figure_exact : (c : WorkOutCall) → c.result.refusal ≡ 0 → c.result.figures ≡ map rounded_up (exact_values (bytes c))
+pub figure_exact : (c : WorkOutCall) → refused c.result ≡ 0 → figures_in c.result ≡ map rounded_up (exact_values (bytes c))
 figure_exact c e = c.kept.1 ∙ figures_exact (bytes c) (sym c.kept.0 ∙ e)
 
 -- at any margin
-pub figure_bounds_at : (m : ℕ) (c : WorkOutCall) → c.result.refusal ≡ 0 → (i : ℕ) → i < 4 → WithinBounds m (get_or (exact_values (bytes c)) i (0 over 1)) (get_or c.result.figures i 0)
+pub figure_bounds_at : (m : ℕ) (c : WorkOutCall) → refused c.result ≡ 0 → (i : ℕ) → i < 4 → WithinBounds m (get_or (exact_values (bytes c)) i (0 over 1)) (get_or (figures_in c.result) i 0)
 figure_bounds_at m c e i h =
     subst (λ (fs : List ℕ). WithinBounds m (get_or (exact_values (bytes c)) i (0 over 1)) (get_or fs i 0)) (sym c.kept.1) (figures_within_at m (bytes c) (sym c.kept.0 ∙ e) i h)
 
-pub figure_bounds : (c : WorkOutCall) → c.result.refusal ≡ 0 → (i : ℕ) → i < 4 → WithinBounds margin (get_or (exact_values (bytes c)) i (0 over 1)) (get_or c.result.figures i 0)
+pub figure_bounds : (c : WorkOutCall) → refused c.result ≡ 0 → (i : ℕ) → i < 4 → WithinBounds margin (get_or (exact_values (bytes c)) i (0 over 1)) (get_or (figures_in c.result) i 0)
 figure_bounds = figure_bounds_at margin
 
-pub zero_iff : (c : WorkOutCall) → c.result.refusal ≡ 0 → (i : ℕ) → i < 4
-    → (get_or c.result.figures i 0 ≡ 0 → (get_or (exact_values (bytes c)) i (0 over 1)).upper ≡ 0) × ((get_or (exact_values (bytes c)) i (0 over 1)).upper ≡ 0 → get_or c.result.figures i 0 ≡ 0)
+pub zero_iff : (c : WorkOutCall) → refused c.result ≡ 0 → (i : ℕ) → i < 4
+    → (get_or (figures_in c.result) i 0 ≡ 0 → (get_or (exact_values (bytes c)) i (0 over 1)).upper ≡ 0) × ((get_or (exact_values (bytes c)) i (0 over 1)).upper ≡ 0 → get_or (figures_in c.result) i 0 ≡ 0)
 zero_iff c e i h = let w = figure_bounds c e i h in (w.zero_only, w.zero_then)
 
 -- ── demand 1, of the same call
 
-pub refusal_first : (c : WorkOutCall) → IsFirst (refusals (bytes c)) c.result.refusal
-refusal_first c = (refusal_order (bytes c) c.result.refusal).0 (sym c.kept.0)
+pub refusal_first : (c : WorkOutCall) → IsFirst (refusals (bytes c)) (refused c.result)
+refusal_first c = (refusal_order (bytes c) (refused c.result)).0 (sym c.kept.0)
 
-pub result_exactly : (c : WorkOutCall) → (c.result.refusal ≡ 0 → WithinRanges (bytes c)) × (WithinRanges (bytes c) → c.result.refusal ≡ 0)
+pub result_exactly : (c : WorkOutCall) → (refused c.result ≡ 0 → WithinRanges (bytes c)) × (WithinRanges (bytes c) → refused c.result ≡ 0)
 result_exactly c = let e = accepted_exactly (bytes c) in (λ z. e.0 (sym c.kept.0 ∙ z), λ w. c.kept.0 ∙ e.1 w)
 
-pub refused_no_figure : (c : WorkOutCall) → (c.result.refusal ≡ 0 → ⊥) → c.result.figures ≡ 0 ∷ 0 ∷ 0 ∷ 0 ∷ []
+pub refused_no_figure : (c : WorkOutCall) → (refused c.result ≡ 0 → ⊥) → figures_in c.result ≡ 0 ∷ 0 ∷ 0 ∷ 0 ∷ []
 refused_no_figure c h = c.kept.1 ∙ sym (figures_refused (bytes c) (λ (z : refusal_of (bytes c) ≡ 0). h (c.kept.0 ∙ z)))

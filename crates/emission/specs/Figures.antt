@@ -1,6 +1,7 @@
 -- The four exact values of a case in micrograms, its four figures, and demand 2's bounds.
 -- Their order, and where water goes: paper 01, 'Equations', last paragraph.
-use Rattle.std.specs.Prelude.{◌≡◌, cond, List, [], ◌∷◌, map, ℕ, ◌+◌, ◌*◌, ◌^◌, ◌≤◌, ◌<◌, eqb}
+use Rattle.std.specs.Prelude.{◌≡◌, cond, List, [], ◌∷◌, map, ℕ, ◌+◌, ◌*◌, ◌^◌, ◌≤◌, ◌<◌, eqb, Result, Ok, Err}
+use Rattle.kinds.specs.declared.refusal.Refusal.{Refusal}
 use Rattle.kinds.specs.Case.{route_of, refusal_of}
 use Rattle.scenario.specs.Decoding.{case_of, head_of}
 use Rattle.product.specs.Ratio.{Ratio, ◌over◌, rounded_up}
@@ -17,6 +18,11 @@ exact_values b =
 -- A figure is its exact value rounded up; beside a refusal stand zeros, which count as no result.
 unfoldable pub figures_of : List ℕ → List ℕ
 figures_of b = cond (eqb (refusal_of b) 0) (map rounded_up (exact_values b)) (0 ∷ 0 ∷ 0 ∷ 0 ∷ [])
+
+-- the four of a result, by the same rule
+abbrev pub figures_in : Result (List ℕ) Refusal → List ℕ
+figures_in (Ok figures) = figures
+figures_in (Err r) = 0 ∷ 0 ∷ 0 ∷ 0 ∷ []
 
 -- Demand 2, of a figure and its exact value p: never below, above by at most one part in 2 ^ margin of p plus one microgram,
 -- and zero exactly when p is zero; each by multiplying across, which says something since p's lower number is not 0.

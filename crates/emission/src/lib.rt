@@ -6,11 +6,13 @@ ghost use Rattle.std.specs.Prelude.{◌≡◌, cond, [], ◌∷◌, eqb};
 ghost use Rattle.kinds.specs.Case.{refusal_of};
 ghost use Rattle.product.specs.Ratio.{rounded_up};
 ghost use Rattle.equations.specs.Equations.{to_water, to_air, to_soil, micrograms};
-ghost use Rattle.emission.specs.Figures.{figures_of};
+ghost use Rattle.kinds.specs.Number.{refused};
+ghost use Rattle.emission.specs.Figures.{figures_of, figures_in};
 ghost use Rattle.equations.specs.Ranges.{InRange};
 
 use equations::Emissions;
-use scenario::{Case, Decoded, Head};
+use kinds::refusal::Refusal;
+use scenario::{Accepted, Case, Head};
 
 fn only_water(figure: u64) -> Emissions
     ensures { (result.water ≡ figure) × (result.air ≡ rounded_up (micrograms [])) × (result.soil ≡ rounded_up (micrograms [])) }
@@ -86,33 +88,28 @@ fn by_route(route: u8, e: Emissions) -> [u64; 4]
     }
 }
 
-// Writes the four figures of a case and returns 0, or zeros and the first refusal that holds.
-pub fn work_out_into(case: &[u8], figures: &mut [u64; 4]) -> u32
-    ensures { (result ≡ refusal_of case.now) × (figures.new ≡ figures_of case.now) }
+// Writes the four figures of a case, or zeros beside the first refusal that holds.
+pub fn work_out_into(case: &[u8], figures: &mut [u64; 4]) -> Result<(), Refusal>
+    ensures { (refused result ≡ refusal_of case.now) × (figures.new ≡ figures_of case.now) }
 {
-    match scenario::decode(&case[..]) {
-        Decoded::Refused(number) => {
+    // Zeros are written beside a refusal alone: an accepted case is faster without.
+    match scenario::decode(case) {
+        Err(refusal) => {
             *figures = [0, 0, 0, 0];
-            number
+            Err(refusal)
         }
-        Decoded::Accepted { head, case } => {
+        Ok(Accepted { head, case }) => {
             *figures = by_route(head.route, emissions_of(case, head));
-            0
+            Ok(())
         }
     }
 }
 
-#[derive(Clone, Copy)]
-pub struct Worked {
-    pub refusal: u32,
-    pub figures: [u64; 4],
-}
-
 // The same, by value.
-pub fn work_out(case: &[u8]) -> Worked
-    ensures { (result.refusal ≡ refusal_of case.now) × (result.figures ≡ figures_of case.now) }
+pub fn work_out(case: &[u8]) -> Result<[u64; 4], Refusal>
+    ensures { (refused result ≡ refusal_of case.now) × (figures_in result ≡ figures_of case.now) }
 {
     let mut figures = [0, 0, 0, 0];
-    let refusal = work_out_into(case, &mut figures);
-    Worked { refusal, figures }
+    work_out_into(case, &mut figures)?;
+    Ok(figures)
 }

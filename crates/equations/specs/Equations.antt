@@ -1,8 +1,6 @@
 -- Equations 1 to 7 as paper 01 prints them and 8 as request No. 2 does, factor by factor in its order, in kg per day.
-use Rattle.std.specs.Prelude.{cond, List, [], ◌∷◌, ◌++◌, ℕ, ◌-◌, ◌*◌, eqb, Float}
+use Rattle.std.specs.Prelude.{cond, List, [], ◌∷◌, ◌++◌, ℕ, ◌-◌, ◌*◌, eqb, Float, Option, Some, None}
 use Rattle.kinds.specs.Polymers.{usage_at}
-use Rattle.kinds.specs.declared.polymers.Usage.{Usage}
-use Rattle.kinds.specs.declared.polymers.Usage.TheVariants.{NoUsage, Tonnes}
 use Rattle.scenario.specs.declared.Case.{Case}
 use Rattle.scenario.specs.declared.Case.TheVariants.{Measured, Unknown, Application, Sanitary, Formulation, Hygiene, Toilets, Plastics}
 use Rattle.scenario.specs.declared.Head.{Head}
@@ -81,9 +79,9 @@ abbrev pub plastics : ℕ → Float → Float → ℕ → List (List Factor)
 plastics Q a b T = (number Q 1 ∷ number 1000 1 ∷ quantity a ∷ quantity b ∷ number 1 T ∷ []) ∷ []
 
 -- without a usage Q there is no equation, and the case is refused
-abbrev pub plastics_at : Usage → Float → Float → ℕ → List (List Factor)
-plastics_at NoUsage a b T = []
-plastics_at (Tonnes Q) a b T = plastics Q a b T
+abbrev pub plastics_at : Option ℕ → Float → Float → ℕ → List (List Factor)
+plastics_at None a b T = []
+plastics_at (Some Q) a b T = plastics Q a b T
 
 -- ── the emissions of a case to water, air and soil; a sum of no chains is 0
 

@@ -11,7 +11,7 @@ ghost use Rattle.equations.specs.Ranges.{Within, InRange};
 use crate::constants::{
     application_constants, consumption_constants, hundredths, measured_constants, unknown_constants,
 };
-use kinds::polymers::{Usage, usage_of};
+use kinds::polymers::usage_of;
 use product::{product_up, remainder_up, sum_up, three_up};
 use scenario::{Head, Site};
 
@@ -167,12 +167,12 @@ pub fn plastics(active: f64, air: f64, water: f64, head: Head) -> Emissions
     ensures { (result.water ≡ rounded_up (micrograms (to_water (Plastics active air water) head))) × (result.air ≡ rounded_up (micrograms (to_air (Plastics active air water) head))) × (result.soil ≡ rounded_up (micrograms (to_soil (Plastics active air water) head))) }
 {
     match usage_of(head.row, head.user) {
-        Usage::NoUsage => Emissions {
+        None => Emissions {
             water: 0,
             air: 0,
             soil: 0,
         },
-        Usage::Tonnes(tonnes) => Emissions {
+        Some(tonnes) => Emissions {
             water: plastics_part(tonnes, active, water, head.count),
             air: plastics_part(tonnes, active, air, head.count),
             soil: 0,

@@ -1,5 +1,6 @@
 -- Laws of the table of kinds: `no_kind_lem` (what is none of them), `each_kind` (what holds of each), `tested` (one computed test of all, by their numbers),
--- `not_summed` (of which nothing is summed). Of any table that is numbered from 1: `beyond` (what is none of its entries). Of ranges: `inside`.
+-- `not_summed` (of which nothing is summed). Of any table that is numbered from 1: `beyond` (what is none of its entries). Of ranges: `inside`, and of
+-- std's `contains`: `in_range`.
 -- Laws of limits are in `Limits`, of usages in `UsageTable`.
 use mathlib.Core.Path.{◌≡◌, refl}
 use mathlib.Core.Bool.{Bool, true, false, ◌&&◌, ◌||◌}
@@ -10,7 +11,11 @@ use native.Mathlib.Omega.{arith}
 use lib.Dec.{leb, eqb}
 use lib.ListN.{length, get_or, get_or-eq_default}
 use borrow.Author.Tests.{leb-true, le-leb, eqb-true, eqb-false, ne_eqb}
-use Rattle.kinds.specs.Case.{Range, within, Kind, kinds, no_kind, kind_at}
+use Rattle.std.proofs.Common.{Some, rules, tests as decided}
+use Rattle.std.specs.declared.ops.RangeInclusive.{RangeInclusive}
+use Rattle.std.specs.Ordering.{nat_cmp, is_le}
+use Rattle.std.specs.Range.{range_inclusive_start, range_inclusive_end, range_inclusive_exhausted, range_inclusive_contains}
+use Rattle.kinds.specs.Case.{Range, ◌to◌, within, Kind, kinds, no_kind, kind_at}
 use Rattle.kinds.specs.Ranges.{Between, IsKind}
 use Rattle.octets.proofs.Bools.{both}
 
@@ -20,20 +25,22 @@ inside r n = (
   λ h. rw (le-leb r.from n h.0, le-leb n r.to h.1),
 )
 
+at_most : (m n : ℕ) → is_le (nat_cmp m n) ≡ leb m n
+at_most m n = search (rules, decided)
+
+pub in_range : (s : RangeInclusive ℕ) (x : ℕ) {m n : ℕ} {r : Bool} → range_inclusive_start s ≡ m → range_inclusive_end s ≡ n → range_inclusive_exhausted s ≡ false
+    → r ≡ range_inclusive_contains (λ a b. Some (nat_cmp a b)) s x → r ≡ within (m to n) x
+in_range s x {m} {n} low high fresh told = rw (told, low, high, fresh, at_most m x, at_most x n)
+
 -- ── kinds by their numbers
 
--- what a match on the numbers from 1 to n leaves to its last arm
+-- k is none of the numbers from 1 to n
 abbrev pub OtherThan : ℕ → ℕ → Type 0
-OtherThan zero k = Unit {0}
-OtherThan (suc n) k = OtherThan n k × (k ≡ suc n → ⊥)
-
-above : (n k : ℕ) → 0 < k → OtherThan n k → n < k
-above zero k h o = h
-above (suc n) k h o = let l = above n k h o.0 in let e = o.1 in omega arith
+OtherThan n k = 1 ≤ k → n < k
 
 pub beyond : {A : Type 0} (none : A) (xs : List A) (k : ℕ) → OtherThan (length xs) k → get_or (none ∷ xs) k none ≡ none
 beyond none xs zero o = refl
-beyond none xs (suc k) o = get_or-eq_default (none ∷ xs) none (above (length xs) (suc k) (omega arith) o)
+beyond none xs (suc k) o = get_or-eq_default (none ∷ xs) none (o (omega arith))
 
 pub no_kind_lem : (k : ℕ) → OtherThan (length kinds) k → kind_at k ≡ no_kind
 unfolding kind_at

@@ -1,11 +1,14 @@
--- Laws of the six quantities: `each_of_six` (by place); of a test `none_of_six`, `six_then`, `six_same`; `each_finite` (what passes refusal 8).
-use mathlib.Core.Path.{◌≡◌}
+-- Laws of the six quantities: `each_of_six` (by place); `six_by`, `six_are` (a list of six by its elements); of a test `none_of_six`, `six_then`, `six_same`; `each_finite` (what passes refusal 8).
+use mathlib.Core.Path.{◌≡◌, refl}
 use mathlib.Core.Bool.{Bool, true, false, ◌||◌}
+use mathlib.Core.List.{List}
+use lib.ListN.{length, get_or}
+use Rattle.std.proofs.lemmas.List.FromFn.{fill_by_all}
 use Prim.Native.Nat.{ℕ, zero, suc, ◌<◌}
 use native.Mathlib.Omega.{arith}
 use borrow.Author.Tests.{not-false}
 use Rattle.binary64.specs.Pattern.{is_unsigned_finite}
-use Rattle.kinds.specs.Case.{any_of_six, not_number, any_not_number}
+use Rattle.kinds.specs.Case.{of_six, any_of_six, not_number, any_not_number}
 use Rattle.octets.proofs.Bools.{neither}
 
 pub each_of_six : (P : ℕ → Type 0) → P 0 → P 1 → P 2 → P 3 → P 4 → P 5 → (i : ℕ) → i < 6 → P i
@@ -16,6 +19,13 @@ each_of_six P a b c d e f (suc (suc (suc zero))) h = d
 each_of_six P a b c d e f (suc (suc (suc (suc zero)))) h = e
 each_of_six P a b c d e f (suc (suc (suc (suc (suc zero))))) h = f
 each_of_six P a b c d e f (suc (suc (suc (suc (suc (suc i)))))) h = absurd (omega arith)
+
+pub six_by : {A : Type 0} (x : ℕ → A) (l : List A) (d : A) → length l ≡ 6 → ((i : ℕ) → i < 6 → get_or l i d ≡ x i) → l ≡ of_six x
+six_by x l d n e = fill_by_all x l 6 d n e
+
+-- whatever stands for an element that is not there
+pub six_are : {A : Type 0} (l : List A) (d : A) → length l ≡ 6 → l ≡ of_six (λ i. get_or l i d)
+six_are l d n = six_by (λ i. get_or l i d) l d n (λ i h. refl)
 
 pub none_of_six : (p : ℕ → Bool) → any_of_six p ≡ false → (i : ℕ) → i < 6 → p i ≡ false
 none_of_six p none =

@@ -13,8 +13,7 @@ use lib.ListN.{length}
 use borrow.Author.Tests.{leb-true, eqb-true}
 use Rattle.octets.proofs.Bools.{every, every_at}
 use Rattle.kinds.specs.Polymers.{polymers, no_polymer, usages_of, usage_at, polymer_rows, column, usage_count, tonnes_in_all}
-use Rattle.kinds.specs.declared.polymers.Usage.{Usage}
-use Rattle.kinds.specs.declared.polymers.Usage.TheVariants.{NoUsage, Tonnes}
+use Rattle.std.proofs.Common.{Option, Some, None}
 use Rattle.kinds.proofs.KindTable.{OtherThan, beyond}
 
 pub no_polymer_lem : (row : ℕ) → OtherThan (length polymers) row → usages_of row ≡ no_polymer
@@ -23,24 +22,24 @@ no_polymer_lem = beyond no_polymer polymers
 
 processes : (row : ℕ) → length (usages_of row) ≡ 3
 unfolding every usages_of polymers
-processes row = eqb-true (length (usages_of row)) 3 (every_at (λ (l : List Usage). eqb (length l) 3) (no_polymer ∷ polymers) no_polymer refl refl row)
+processes row = eqb-true (length (usages_of row)) 3 (every_at (λ (l : List (Option ℕ)). eqb (length l) 3) (no_polymer ∷ polymers) no_polymer refl refl row)
 
-pub no_process : (row user : ℕ) → OtherThan 3 user → usage_at row user ≡ NoUsage
+pub no_process : (row user : ℕ) → OtherThan 3 user → usage_at row user ≡ None
 unfolding usage_at
-no_process row user o = beyond NoUsage (usages_of row) user (rw (processes row) o)
+no_process row user o = beyond None (usages_of row) user (rw (processes row) o)
 
 abbrev pub most_used : ℕ
 most_used = 23100
 
-small : Usage → Bool
-small NoUsage = true
-small (Tonnes q) = leb q most_used
+small : Option ℕ → Bool
+small None = true
+small (Some q) = leb q most_used
 
 each_small : (row user : ℕ) → small (usage_at row user) ≡ true
 unfolding every small usage_at usages_of polymers
-each_small row user = every_at small (NoUsage ∷ usages_of row) NoUsage (every_at (every small) (no_polymer ∷ polymers) no_polymer refl refl row) refl user
+each_small row user = every_at small (None ∷ usages_of row) None (every_at (every small) (no_polymer ∷ polymers) no_polymer refl refl row) refl user
 
-pub usage_small : (row user q : ℕ) → usage_at row user ≡ Tonnes q → q ≤ most_used
+pub usage_small : (row user q : ℕ) → usage_at row user ≡ Some q → q ≤ most_used
 unfolding small
 usage_small row user q e = leb-true q most_used (rw e at (each_small row user))
 

@@ -3,7 +3,9 @@ use Rattle.std.specs.Prelude.{◌≡◌, Bool, true, false, not, cond, List, [],
 use Rattle.std.specs.Float.{binary64}
 use Rattle.std.specs.Float.Ieee.{of_int, to_bits}
 use Rattle.binary64.specs.Quantity.{one}
-use Rattle.kinds.specs.Case.{exact_of, Listing, listed, limit, Kind, pattern_at, of_six}
+use Rattle.kinds.specs.declared.Span.{Span}
+use Rattle.kinds.specs.declared.Bounds.{Bounds}
+use Rattle.kinds.specs.Case.{exact_of, Range, Listing, listed, limit, Kind, pattern_at, of_six}
 
 -- ── quantities
 
@@ -17,11 +19,12 @@ at ps i = get_or ps i 0
 
 -- ── the table of kinds
 
--- from and to of the rows, of the users, of T with row 0, of T with the paper's rows
-unfoldable pub bounds_of : Kind → List ℕ
-bounds_of k =
-    k.rows.from ∷ k.rows.to ∷ k.users.from ∷ k.users.to
-    ∷ k.own_count.from ∷ k.own_count.to ∷ k.row_count.from ∷ k.row_count.to ∷ []
+abbrev pub span : Range → Span
+span r = record { 0 = r.from; 1 = r.to }
+
+-- what the fields of a kind may be
+unfoldable pub bounds_of : Kind → Bounds
+bounds_of k = record { rows = span k.rows; users = span k.users; own_count = span k.own_count; row_count = span k.row_count }
 
 -- 0 for a quantity that is not listed, otherwise the pattern of the limit: with row 0, or with the paper's rows
 unfoldable pub limit_pattern : Bool → Listing → ℕ

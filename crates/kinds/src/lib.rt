@@ -6,7 +6,7 @@ ghost use Rattle.std.specs.Prelude.{◌≡◌, not, eqb};
 ghost use Rattle.kinds.specs.Case.{within, ◌to◌, kind_at, kind_unknown, route_not_allowed, row_unknown, user_not_allowed, usage_missing, count_not_allowed};
 ghost use Rattle.kinds.specs.Patterns.{bounds_of, limit_patterns, limits_of};
 
-use polymers::{Usage, usage_of};
+use polymers::usage_of;
 
 pub mod polymers;
 pub mod refusal;
@@ -14,76 +14,97 @@ pub mod refusal;
 pub fn kind_unknown(kind: u8) -> bool
     ensures { result ≡ kind_unknown kind }
 {
-    !((1 <= kind) & (kind <= 8))
+    !(1..=8).contains(&kind)
 }
 
 // Route 2, the rain sewer, is for the uses outdoors of a city.
 pub fn route_not_allowed(kind: u8, row: u8, route: u8) -> bool
     ensures { result ≡ route_not_allowed kind row route }
 {
-    let outdoors = ((1 <= kind) & (kind <= 3)) & ((row == 0) | ((3 <= row) & (row <= 7)));
+    let outdoors = (1..=3).contains(&kind) & ((row == 0) | (3..=7).contains(&row));
     !((route == 1) | ((route == 2) & outdoors))
 }
 
-// From and to of the rows, of the users, of T with row 0 and of T with the paper's rows. What is no kind allows nothing.
-fn bounds_of(kind: u8) -> [u32; 8]
-    ensures { result ≡ bounds_of (kind_at kind) }
-{
-    match kind {
-        1 => [0, 7, 0, 0, 31, 36500, 0, 0],
-        2 => [0, 7, 0, 0, 31, 36500, 0, 0],
-        3 => [0, 7, 1, 2, 1, 100, 0, 0],
-        4 => [0, 1, 0, 0, 1, 366, 0, 0],
-        5 => [0, 0, 0, 0, 1, 366, 0, 0],
-        6 => [0, 5, 0, 0, 0, 0, 0, 0],
-        7 => [0, 1, 0, 0, 1, 100, 0, 0],
-        8 => [1, 18, 1, 3, 1, 366, 1, 366],
-        _ => [1, 0, 1, 0, 1, 0, 1, 0],
+// From and to, both of which are allowed.
+#[derive(Clone, Copy)]
+struct Span(u32, u32);
+
+impl Span {
+    fn contains(self, n: u32) -> bool
+        ensures { result ≡ within (self.0 to self.1) n }
+    {
+        (self.0..=self.1).contains(&n)
     }
 }
 
-fn outside(low: u32, high: u32, n: u32) -> bool
-    ensures { result ≡ not (within (low to high) n) }
+// What rows and users there may be, and T with row 0 and with the paper's rows.
+#[derive(Clone, Copy)]
+struct Bounds {
+    rows: Span,
+    users: Span,
+    own_count: Span,
+    row_count: Span,
+}
+
+impl Bounds {
+    fn new(rows: Span, users: Span, own_count: Span, row_count: Span) -> Bounds
+        ensures { result ≡ record { rows = rows; users = users; own_count = own_count; row_count = row_count } }
+    {
+        Bounds {
+            rows,
+            users,
+            own_count,
+            row_count,
+        }
+    }
+}
+
+// What is no kind allows nothing.
+fn bounds_of(kind: u8) -> Bounds
+    ensures { result ≡ bounds_of (kind_at kind) }
 {
-    !((low <= n) & (n <= high))
+    match kind {
+        1 => Bounds::new(Span(0, 7), Span(0, 0), Span(31, 36500), Span(0, 0)),
+        2 => Bounds::new(Span(0, 7), Span(0, 0), Span(31, 36500), Span(0, 0)),
+        3 => Bounds::new(Span(0, 7), Span(1, 2), Span(1, 100), Span(0, 0)),
+        4 => Bounds::new(Span(0, 1), Span(0, 0), Span(1, 366), Span(0, 0)),
+        5 => Bounds::new(Span(0, 0), Span(0, 0), Span(1, 366), Span(0, 0)),
+        6 => Bounds::new(Span(0, 5), Span(0, 0), Span(0, 0), Span(0, 0)),
+        7 => Bounds::new(Span(0, 1), Span(0, 0), Span(1, 100), Span(0, 0)),
+        8 => Bounds::new(Span(1, 18), Span(1, 3), Span(1, 366), Span(1, 366)),
+        _ => Bounds::new(Span(1, 0), Span(1, 0), Span(1, 0), Span(1, 0)),
+    }
 }
 
 pub fn row_unknown(kind: u8, row: u8) -> bool
     ensures { result ≡ row_unknown kind row }
 {
-    let bounds = bounds_of(kind);
-    outside(bounds[0], bounds[1], row as u32)
+    !bounds_of(kind).rows.contains(u32::from(row))
 }
 
 pub fn user_not_allowed(kind: u8, user: u8) -> bool
     ensures { result ≡ user_not_allowed kind user }
 {
-    let bounds = bounds_of(kind);
-    outside(bounds[2], bounds[3], user as u32)
+    !bounds_of(kind).users.contains(u32::from(user))
 }
 
 // Kind 8: the polymer has no usage for the process.
 pub fn usage_missing(kind: u8, row: u8, user: u8) -> bool
     ensures { result ≡ usage_missing kind row user }
 {
-    if kind != 8 {
-        return false;
-    }
-    match usage_of(row, user) {
-        Usage::NoUsage => true,
-        Usage::Tonnes(_) => false,
-    }
+    kind == 8 && usage_of(row, user).is_none()
 }
 
 pub fn count_not_allowed(kind: u8, row: u8, t: u32) -> bool
     ensures { result ≡ count_not_allowed kind row t }
 {
     let bounds = bounds_of(kind);
-    if row == 0 {
-        outside(bounds[4], bounds[5], t)
+    let counts = if row == 0 {
+        bounds.own_count
     } else {
-        outside(bounds[6], bounds[7], t)
-    }
+        bounds.row_count
+    };
+    !counts.contains(t)
 }
 
 // The patterns of limits.
@@ -142,6 +163,6 @@ fn limits_at(kind: u8) -> [[u64; 6]; 2]
 pub fn limits_of(kind: u8, row: u8) -> [u64; 6]
     ensures { result ≡ limit_patterns (eqb row 0) (kind_at kind).quantities }
 {
-    let limits = limits_at(kind);
-    if row == 0 { limits[0] } else { limits[1] }
+    let [own, paper] = limits_at(kind);
+    if row == 0 { own } else { paper }
 }

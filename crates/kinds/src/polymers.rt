@@ -2,49 +2,42 @@
 ghost use Rattle.std.specs.Prelude.{◌≡◌};
 ghost use Rattle.kinds.specs.Polymers.{usages_of, usage_at};
 
-// Tonnes per year, where the table has them.
-#[derive(Clone, Copy)]
-pub enum Usage {
-    NoUsage,
-    Tonnes(u32),
-}
-
-// Of a polymer: open, partially open, closed. What is no polymer has none.
-fn usages_of(row: u8) -> [Usage; 3]
+// Of a polymer, in tonnes per year: open, partially open, closed. What is no polymer has none.
+fn usages_of(row: u8) -> [Option<u32>; 3]
     ensures { result ≡ usages_of row }
 {
     match row {
-        1 => [Usage::NoUsage, Usage::Tonnes(23100), Usage::Tonnes(528)],
-        2 => [Usage::NoUsage, Usage::Tonnes(2070), Usage::Tonnes(2130)],
-        3 => [Usage::NoUsage, Usage::Tonnes(8880), Usage::Tonnes(1610)],
-        4 => [Usage::Tonnes(988), Usage::NoUsage, Usage::Tonnes(2010)],
-        5 => [Usage::Tonnes(744), Usage::Tonnes(3990), Usage::Tonnes(341)],
-        6 => [Usage::Tonnes(605), Usage::Tonnes(389), Usage::Tonnes(623)],
-        7 => [Usage::NoUsage, Usage::NoUsage, Usage::Tonnes(2790)],
-        8 => [Usage::Tonnes(78), Usage::NoUsage, Usage::Tonnes(428)],
-        9 => [Usage::Tonnes(176), Usage::NoUsage, Usage::Tonnes(814)],
-        10 => [Usage::Tonnes(39), Usage::NoUsage, Usage::Tonnes(181)],
-        11 => [Usage::Tonnes(55), Usage::Tonnes(207), Usage::Tonnes(28)],
-        12 => [Usage::NoUsage, Usage::Tonnes(52), Usage::Tonnes(84)],
-        13 => [Usage::NoUsage, Usage::Tonnes(62), Usage::Tonnes(69)],
-        14 => [Usage::NoUsage, Usage::NoUsage, Usage::Tonnes(804)],
-        15 => [Usage::Tonnes(575), Usage::NoUsage, Usage::Tonnes(206)],
-        16 => [Usage::NoUsage, Usage::NoUsage, Usage::Tonnes(121)],
-        17 => [Usage::NoUsage, Usage::NoUsage, Usage::Tonnes(469)],
-        18 => [Usage::NoUsage, Usage::NoUsage, Usage::Tonnes(80)],
-        _ => [Usage::NoUsage, Usage::NoUsage, Usage::NoUsage],
+        1 => [None, Some(23100), Some(528)],
+        2 => [None, Some(2070), Some(2130)],
+        3 => [None, Some(8880), Some(1610)],
+        4 => [Some(988), None, Some(2010)],
+        5 => [Some(744), Some(3990), Some(341)],
+        6 => [Some(605), Some(389), Some(623)],
+        7 => [None, None, Some(2790)],
+        8 => [Some(78), None, Some(428)],
+        9 => [Some(176), None, Some(814)],
+        10 => [Some(39), None, Some(181)],
+        11 => [Some(55), Some(207), Some(28)],
+        12 => [None, Some(52), Some(84)],
+        13 => [None, Some(62), Some(69)],
+        14 => [None, None, Some(804)],
+        15 => [Some(575), None, Some(206)],
+        16 => [None, None, Some(121)],
+        17 => [None, None, Some(469)],
+        18 => [None, None, Some(80)],
+        _ => [None, None, None],
     }
 }
 
 // Of a polymer by a process.
-pub fn usage_of(row: u8, user: u8) -> Usage
+pub fn usage_of(row: u8, user: u8) -> Option<u32>
     ensures { result ≡ usage_at row user }
 {
-    let usages = usages_of(row);
+    let [open, partially_open, closed] = usages_of(row);
     match user {
-        1 => usages[0],
-        2 => usages[1],
-        3 => usages[2],
-        _ => Usage::NoUsage,
+        1 => open,
+        2 => partially_open,
+        3 => closed,
+        _ => None,
     }
 }

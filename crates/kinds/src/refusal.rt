@@ -25,6 +25,8 @@ pub enum Refusal {
 }
 
 impl Refusal {
+    // Not inlined: only what is refused calls it, and the way of an accepted case stays short.
+    #[inline(never)]
     pub fn number(self) -> u32
         ensures { result ≡ number self }
     {

@@ -4,11 +4,14 @@ use mathlib.Core.Bool.{Bool, true, false}
 use mathlib.Core.List.{List}
 use Prim.Native.Nat.{ℕ}
 use lib.Dec.{eqb}
-use borrow.Author.Tests.{eqb-true}
+use borrow.Author.Tests.{eqb-true, eqb-false}
 use Rattle.kinds.specs.Case.{kinds, kind_of, pattern_at, of_six, quantity_of, refusal_of}
 use Rattle.scenario.specs.Decoding.{case_with, case_of_patterns, case_of, head_of, decoded, kind_in, quantities_in, of_decoded, said}
 use Rattle.kinds.specs.Ranges.{allowed_by}
-use Rattle.scenario.specs.declared.Decoded.{Decoded}
+use Rattle.std.proofs.Common.{Result}
+use Rattle.kinds.specs.declared.refusal.Refusal.{Refusal}
+use Rattle.kinds.proofs.Numbers.{refusal_named}
+use Rattle.scenario.specs.declared.Accepted.{Accepted}
 use Rattle.kinds.proofs.KindTable.{each_kind, ◌then◌}
 use Rattle.kinds.proofs.Ranges.{accepted_exactly}
 
@@ -38,8 +41,8 @@ of_decoded_lem b = go (eqb (refusal_of b) 0) refl
         let z = eqb-true (refusal_of b) 0 e in
         let a = accepted_says b z in
         rw (z, a.0, a.1)
-    go false e = rw e
+    go false e = rw (e, refusal_named b (eqb-false (refusal_of b) 0 e))
 
 -- beside the enum
-pub decoded_said : (b : List ℕ) {r : Decoded} → r ≡ decoded b → (r ≡ decoded b) × (of_decoded r ≡ said b)
+pub decoded_said : (b : List ℕ) {r : Result Accepted Refusal} → r ≡ decoded b → (r ≡ decoded b) × (of_decoded r ≡ said b)
 decoded_said b e = (e, ap of_decoded e ∙ of_decoded_lem b)

@@ -1,13 +1,15 @@
 -- What a case of 64 bytes says: its kind with that kind's quantities, its row, route, user, T and dossier number.
 -- Paper 01, 'A form for each place': "A case is an enum over kinds; each case carries that kind's f64 quantities".
-use Rattle.std.specs.Prelude.{cond, List, [], ◌∷◌, ℕ, eqb, Float}
+use Rattle.std.specs.Prelude.{cond, List, [], ◌∷◌, ℕ, eqb, Float, get_or, Result, Ok, Err}
+use Rattle.std.specs.Float.{nan}
+use Rattle.kinds.specs.declared.refusal.Refusal.{Refusal}
+use Rattle.kinds.specs.Number.{number, refusal_at}
 use Rattle.kinds.specs.Case.{kind_of, row_of, route_of, user_of, count_of, dossier_of, pattern_at, of_six, quantity_of, refusal_of}
 use Rattle.scenario.specs.declared.Site.{Site}
 use Rattle.scenario.specs.declared.Case.{Case}
 use Rattle.scenario.specs.declared.Case.TheVariants.{Measured, Unknown, Application, Sanitary, Formulation, Hygiene, Toilets, Plastics}
 use Rattle.scenario.specs.declared.Head.{Head}
-use Rattle.scenario.specs.declared.Decoded.{Decoded}
-use Rattle.scenario.specs.declared.Decoded.TheVariants.{Accepted, Refused}
+use Rattle.scenario.specs.declared.Accepted.{Accepted}
 
 -- in row 0 a city's case brings its own site (kind 1 its area alone); what it does not list is zero
 abbrev pub site_with : Float → Float → Float → Site
@@ -25,6 +27,12 @@ case_with k a b c d e f =
     (cond (eqb k 7) (Toilets a b c d e)
     (Plastics a b c)))))))
 
+-- of a list of them
+abbrev pub case_of_six : ℕ → List Float → Case
+case_of_six k q =
+    let x : ℕ → Float = (λ i. get_or q i nan) in
+    case_with k (x 0) (x 1) (x 2) (x 3) (x 4) (x 5)
+
 -- of the patterns p of a to f
 unfoldable pub case_of_patterns : ℕ → (ℕ → ℕ) → Case
 case_of_patterns k p = case_with k (quantity_of (p 0)) (quantity_of (p 1)) (quantity_of (p 2)) (quantity_of (p 3)) (quantity_of (p 4)) (quantity_of (p 5))
@@ -36,8 +44,8 @@ unfoldable pub head_of : List ℕ → Head
 head_of b = record { row = row_of b; route = route_of b; user = user_of b; count = count_of b; dossier = dossier_of b }
 
 -- what `decode` answers
-unfoldable pub decoded : List ℕ → Decoded
-decoded b = cond (eqb (refusal_of b) 0) (Accepted (head_of b) (case_of b)) (Refused (refusal_of b))
+unfoldable pub decoded : List ℕ → Result Accepted Refusal
+decoded b = cond (eqb (refusal_of b) 0) (Ok (record { head = head_of b; case = case_of b })) (Err (refusal_at (refusal_of b)))
 
 -- ── what its answer says in the paper's numbers
 
@@ -72,9 +80,9 @@ pub record Said : Type 0 where
   pub fields : List ℕ
   pub quantities : List Float
 
-abbrev pub of_decoded : Decoded → Said
-of_decoded (Accepted h k) = record { refusal = 0; fields = kind_in k ∷ h.row ∷ h.route ∷ h.user ∷ h.count ∷ h.dossier ∷ []; quantities = quantities_in k }
-of_decoded (Refused r) = record { refusal = r; fields = []; quantities = [] }
+abbrev pub of_decoded : Result Accepted Refusal → Said
+of_decoded (Ok a) = let h = a.head in record { refusal = 0; fields = kind_in a.case ∷ h.row ∷ h.route ∷ h.user ∷ h.count ∷ h.dossier ∷ []; quantities = quantities_in a.case }
+of_decoded (Err r) = record { refusal = number r; fields = []; quantities = [] }
 
 -- what the bytes of a case say
 unfoldable pub said : List ℕ → Said

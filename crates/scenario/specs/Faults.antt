@@ -1,5 +1,6 @@
 -- What is found of refusals 8, 9 and 10 in one pass over the six quantities, by their patterns and those of their limits.
-use Rattle.std.specs.Prelude.{not, ◌&&◌, ◌||◌, ℕ, leb, eqb}
+use Rattle.std.specs.Prelude.{not, ◌&&◌, ◌||◌, List, [], ◌∷◌, ℕ, leb, eqb}
+use Rattle.kinds.specs.Refusal.{Condition, ◌when◌}
 use Rattle.kinds.specs.Case.{not_number, any_not_number, any_not_zero_bytes, any_over_limit}
 use Rattle.scenario.specs.declared.quantities.Faults.{Faults}
 
@@ -7,6 +8,10 @@ use Rattle.scenario.specs.declared.quantities.Faults.{Faults}
 unfoldable pub add_faults : Faults → ℕ → ℕ → Faults
 add_faults found m p =
     record { invalid = found.invalid || not_number p; stray = found.stray || (eqb m 0 && not (eqb p 0)); over = found.over || (not (eqb m 0) && not (leb p m)) }
+
+-- the refusals that they are for
+abbrev pub told_of : Faults → List Condition
+told_of found = (8 when found.invalid) ∷ (9 when found.stray) ∷ (10 when found.over) ∷ []
 
 -- of any of the six
 unfoldable pub faults_of : ℕ → ℕ → (ℕ → ℕ) → Faults

@@ -2,13 +2,10 @@
 // specs/ says what a case says; what each kind allows and when each refusal holds is in crate kinds.
 #![tactic(auto)]
 
-ghost use Rattle.std.specs.Prelude.{◌≡◌, false, ◌++◌};
-ghost use Rattle.kinds.specs.Refusal.{first_of};
-ghost use Rattle.kinds.specs.Case.{any_not_number, head_refusals, quantity_refusals};
-ghost use Rattle.kinds.specs.Patterns.{at};
-ghost use Rattle.scenario.specs.Decoding.{case_with, case_of_patterns, decoded, of_decoded, said};
+ghost use Rattle.std.specs.Prelude.{◌≡◌};
+ghost use Rattle.scenario.specs.Decoding.{case_of_six, decoded, of_decoded, said};
 
-use quantities::quantity_at;
+use kinds::refusal::Refusal;
 
 mod fields;
 mod quantities;
@@ -90,16 +87,18 @@ pub struct Head {
     pub dossier: u64,
 }
 
+// A case that no refusal meets.
 #[derive(Clone, Copy)]
-pub enum Decoded {
-    Accepted { head: Head, case: Case },
-    Refused(u32),
+pub struct Accepted {
+    pub head: Head,
+    pub case: Case,
 }
 
 // The case of a kind, with its own of the six quantities.
-fn case_with(kind: u8, a: f64, b: f64, c: f64, d: f64, e: f64, f: f64) -> Case
-    ensures { result ≡ case_with kind a b c d e f }
+fn case_with(kind: u8, quantities: [f64; 6]) -> Case
+    ensures { result ≡ case_of_six kind quantities }
 {
+    let [a, b, c, d, e, f] = quantities;
     let site = Site {
         area: d,
         volume: e,
@@ -152,50 +151,20 @@ fn case_with(kind: u8, a: f64, b: f64, c: f64, d: f64, e: f64, f: f64) -> Case
     }
 }
 
-// The same from patterns, all of which are numbers.
-fn case_of(kind: u8, p: &[u64; 6]) -> Case
-    requires { any_not_number (at p.now) ≡ false }
-    ensures { result ≡ case_of_patterns kind (at p.now) }
-{
-    case_with(
-        kind,
-        quantity_at(p, 0),
-        quantity_at(p, 1),
-        quantity_at(p, 2),
-        quantity_at(p, 3),
-        quantity_at(p, 4),
-        quantity_at(p, 5),
-    )
-}
-
-// The first of refusals 2 to 11 and 31 that holds, 0 for none.
-fn refusal_of(kind: u8, head: Head, p: &[u64; 6]) -> u32
-    ensures { result ≡ first_of (head_refusals kind head.row head.route head.user head.count head.dossier ++ quantity_refusals kind head.row (at p.now)) }
-{
-    let n = fields::head_refusal(kind, head);
-    if n != 0 {
-        return n;
-    }
-    let row = head.row;
-    quantities::quantity_refusal(kind, row, p)
-}
-
 // What the case says, or the first refusal that holds.
-pub fn decode(case: &[u8]) -> Decoded
+pub fn decode(case: &[u8]) -> Result<Accepted, Refusal>
     ensures { (result ≡ decoded case.now) × (of_decoded result ≡ said case.now) }
 {
-    if case.len() != 64 {
-        return Decoded::Refused(1);
-    }
-    let kind = case[0];
-    let head = fields::head_at(case);
-    let p = quantities::patterns_at(case);
-    let n = refusal_of(kind, head, &p);
-    if n != 0 {
-        return Decoded::Refused(n);
-    }
-    Decoded::Accepted {
+    let Some(bytes) = case.as_array::<64>() else {
+        return Err(Refusal::NotSixtyFour);
+    };
+    let kind = bytes[0];
+    let head = fields::head_at(bytes);
+    let patterns = quantities::patterns_at(bytes);
+    fields::head_refusal(kind, head)?;
+    let quantities = quantities::quantities_of(kind, head.row, &patterns)?;
+    Ok(Accepted {
         head,
-        case: case_of(kind, &p),
-    }
+        case: case_with(kind, quantities),
+    })
 }

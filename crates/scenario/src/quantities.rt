@@ -1,50 +1,60 @@
-// The six quantities of a case, as patterns, and refusals 8 to 11.
-ghost use Rattle.std.specs.Prelude.{◌≡◌, false, not, ◌<◌, length};
+// The six quantities of a case: their patterns, refusals 8 to 11, and what they are.
+ghost use Rattle.std.specs.Prelude.{◌≡◌, not, IfOk};
 ghost use Rattle.std.specs.Float.{binary64};
 ghost use Rattle.std.specs.Float.Ieee.{of_bits, le};
 ghost use Rattle.kinds.specs.Refusal.{first_of};
-ghost use Rattle.kinds.specs.Case.{quantity_of, any_not_number, sum_over, quantity_refusals};
+ghost use Rattle.kinds.specs.Number.{refused};
+ghost use Rattle.kinds.specs.Case.{of_six, quantity_of, sum_within, summed_of, quantity_refusals};
 ghost use Rattle.kinds.specs.Patterns.{patterns_of, at};
-ghost use Rattle.scenario.specs.Faults.{add_faults, faults_of};
+ghost use Rattle.scenario.specs.Faults.{add_faults, told_of, faults_of};
 
 use binary64::pattern::{is_unsigned_finite, quantity_of};
 use kinds::limits_of;
+use kinds::refusal::Refusal;
 use octets::u64_at;
+use std::array;
 
-pub fn patterns_at(case: &[u8]) -> [u64; 6]
-    requires { length case.now ≡ 64 }
+pub fn patterns_at(case: &[u8; 64]) -> [u64; 6]
     ensures { result ≡ patterns_of case.now }
 {
-    [
-        u64_at(case, 16),
-        u64_at(case, 24),
-        u64_at(case, 32),
-        u64_at(case, 40),
-        u64_at(case, 48),
-        u64_at(case, 56),
-    ]
+    array::from_fn(|i| u64_at(case, 16 + 8 * i))
 }
 
 // Whether refusals 8, 9 and 10 hold: no number from 0 on, unlisted and not zero bytes, over its limit.
-#[derive(Clone, Copy)]
+#[derive(Clone, Copy, Default)]
 pub struct Faults {
     pub invalid: bool,
     pub stray: bool,
     pub over: bool,
 }
 
-// What was found, with quantity i by its limit, 0 where it is unlisted, and its pattern. Patterns are in the order of their values.
-fn add_faults(found: Faults, limits: &[u64; 6], p: &[u64; 6], i: usize) -> Faults
-    requires { i < 6 }
-    ensures { result ≡ add_faults found (at limits.now i) (at p.now i) }
-{
-    let limit = limits[i];
-    let pattern = p[i];
-    let unlisted = limit == 0;
-    Faults {
-        invalid: found.invalid | !is_unsigned_finite(pattern),
-        stray: found.stray | (unlisted & (pattern != 0)),
-        over: found.over | (!unlisted & !(pattern <= limit)),
+impl Faults {
+    // What was found, with a quantity by its limit, 0 where it is unlisted, and its pattern. Patterns are in the order of their values.
+    fn with(self, limit: u64, pattern: u64) -> Faults
+        ensures { result ≡ add_faults self limit pattern }
+    {
+        let unlisted = limit == 0;
+        Faults {
+            invalid: self.invalid | !is_unsigned_finite(pattern),
+            stray: self.stray | (unlisted & (pattern != 0)),
+            over: self.over | (!unlisted & !(pattern <= limit)),
+        }
+    }
+
+    // The first of refusals 8, 9 and 10 that holds.
+    fn told(self) -> Result<(), Refusal>
+        ensures { refused result ≡ first_of (told_of self) }
+    {
+        if self.invalid {
+            return Err(Refusal::NotNumber);
+        }
+        if self.stray {
+            return Err(Refusal::Unlisted);
+        }
+        if self.over {
+            return Err(Refusal::OverLimit);
+        }
+        Ok(())
     }
 }
 
@@ -52,26 +62,10 @@ fn add_faults(found: Faults, limits: &[u64; 6], p: &[u64; 6], i: usize) -> Fault
 fn faults_of(kind: u8, row: u8, p: &[u64; 6]) -> Faults
     ensures { result ≡ faults_of kind row (at p.now) }
 {
-    let limits = limits_of(kind, row);
-    let none = Faults {
-        invalid: false,
-        stray: false,
-        over: false,
-    };
-    let a = add_faults(none, &limits, p, 0);
-    let b = add_faults(a, &limits, p, 1);
-    let c = add_faults(b, &limits, p, 2);
-    let d = add_faults(c, &limits, p, 3);
-    let e = add_faults(d, &limits, p, 4);
-    add_faults(e, &limits, p, 5)
-}
-
-// A quantity of six that are all numbers.
-pub fn quantity_at(p: &[u64; 6], i: usize) -> f64
-    requires { (any_not_number (at p.now) ≡ false) × (i < 6) }
-    ensures { result ≡ quantity_of (at p.now i) }
-{
-    quantity_of(p[i])
+    limits_of(kind, row).iter().zip(p).fold(
+        Faults::default(),
+        |found, (limit, pattern)| found.with(*limit, *pattern),
+    )
 }
 
 fn over_one(sum: f64) -> bool
@@ -81,33 +75,26 @@ fn over_one(sum: f64) -> bool
 }
 
 // From the left, each addition rounded.
-fn sum_over(kind: u8, p: &[u64; 6]) -> bool
-    requires { any_not_number (at p.now) ≡ false }
-    ensures { result ≡ sum_over kind (at p.now) }
+fn sum_over(kind: u8, quantities: [f64; 6]) -> bool
+    ensures { result ≡ not (sum_within (summed_of kind quantities)) }
 {
+    let [_, b, c, d, e, _] = quantities;
     match kind {
-        5 => over_one((quantity_at(p, 2) + quantity_at(p, 3)) + quantity_at(p, 4)),
-        8 => over_one(quantity_at(p, 1) + quantity_at(p, 2)),
+        5 => over_one((c + d) + e),
+        8 => over_one(b + c),
         _ => false,
     }
 }
 
-// The first of refusals 8 to 11 that holds, 0 for none.
-pub fn quantity_refusal(kind: u8, row: u8, p: &[u64; 6]) -> u32
-    ensures { result ≡ first_of (quantity_refusals kind row (at p.now)) }
+// The quantities, or the first of refusals 8 to 11 that holds.
+pub fn quantities_of(kind: u8, row: u8, p: &[u64; 6]) -> Result<[f64; 6], Refusal>
+    ensures refusal { refused result ≡ first_of (quantity_refusals kind row (at p.now)) }
+    ensures value { IfOk result (λ q. q ≡ of_six (λ i. quantity_of (at p.now i))) }
 {
-    let faults = faults_of(kind, row, p);
-    if faults.invalid {
-        return 8;
+    faults_of(kind, row, p).told()?;
+    let quantities = array::from_fn(|i| quantity_of(p[i]));
+    if sum_over(kind, quantities) {
+        return Err(Refusal::SumOver);
     }
-    if faults.stray {
-        return 9;
-    }
-    if faults.over {
-        return 10;
-    }
-    if sum_over(kind, p) {
-        return 11;
-    }
-    0
+    Ok(quantities)
 }

@@ -7,17 +7,14 @@ use Rattle.emission.proofs.work_out_into.Goals as goal
 pub emissions_of-requires : goal.emissions_of-requires
 emissions_of-requires c =
     let b = c.args.case.now in
-    let a = accepted_is b _ _ (sym c.decode.ensures.0 ∙ c.in-Accepted.is) in
+    let a = accepted_is b _ (sym c.in-Ok.ensures.0) in
     rw (a.1, a.2) at (in_range b a.0)
 
-pub returns-in-Refused : goal.returns-in-Refused
-returns-in-Refused c =
-    let b = c.args.case.now in
-    let r = refused_is b _ (sym c.decode.ensures.0 ∙ c.in-Refused.is) in
-    (r.0, figures_refused b r.1)
+pub returns-in-Err : goal.returns-in-Err
+returns-in-Err c = let r = refused_is c.args.case.now _ (sym c.in-Err.ensures.0) in (r.0, figures_refused c.args.case.now r.1)
 
-pub returns-in-Accepted : goal.returns-in-Accepted
-returns-in-Accepted c =
+pub returns-in-Ok : goal.returns-in-Ok
+returns-in-Ok c =
     let b = c.args.case.now in
-    let a = accepted_is b _ _ (sym c.decode.ensures.0 ∙ c.in-Accepted.is) in
+    let a = accepted_is b _ (sym c.in-Ok.ensures.0) in
     (sym a.0, c.by_route.ensures ∙ figures_accepted b _ _ _ _ _ a.0 a.1 a.2 c.emissions_of.ensures.0 c.emissions_of.ensures.1 c.emissions_of.ensures.2)

@@ -13,21 +13,21 @@ plastics_part-requires c =
     let p = c.requires in
     let air = p.1.1.0 in
     let water = p.1.1.1.0 in
-    (usage_small _ _ _ (sym c.usage_of.ensures ∙ c.in-Tonnes.is), p.0, (p.1.0, (search rules, tt)))
+    (usage_small _ _ _ (sym c.usage_of.ensures ∙ c.in-Some.is), p.0, (p.1.0, (search rules, tt)))
 
-pub plastics_part-requires-in-Tonnes : goal.plastics_part-requires-in-Tonnes
+pub plastics_part-requires-in-Some : goal.plastics_part-requires-in-Some
 unfolding InRange Within
-plastics_part-requires-in-Tonnes c =
+plastics_part-requires-in-Some c =
     let p = c.requires in
     let air = p.1.1.0 in
     let water = p.1.1.1.0 in
-    (usage_small _ _ _ (sym c.usage_of.ensures ∙ c.in-Tonnes.is), p.0, (p.1.0, (search rules, tt)))
+    (usage_small _ _ _ (sym c.usage_of.ensures ∙ c.in-Some.is), p.0, (p.1.0, (search rules, tt)))
 
-pub returns-in-NoUsage : goal.returns-in-NoUsage
+pub returns-in-None : goal.returns-in-None
 unfolding emitted
-returns-in-NoUsage c = rw (← c.usage_of.ensures, c.in-NoUsage.is) (no_equation, no_equation, no_equation)
+returns-in-None c = rw (← c.usage_of.ensures, c.in-None.is) (no_equation, no_equation, no_equation)
 
-pub returns-in-Tonnes : goal.returns-in-Tonnes
+pub returns-in-Some : goal.returns-in-Some
 unfolding emitted
-returns-in-Tonnes c =
-    rw (← c.usage_of.ensures, c.in-Tonnes.is) (c.plastics_part.ensures, c.plastics_part-in-Tonnes.ensures, no_equation)
+returns-in-Some c =
+    rw (← c.usage_of.ensures, c.in-Some.is) (c.plastics_part.ensures, c.plastics_part-in-Some.ensures, no_equation)

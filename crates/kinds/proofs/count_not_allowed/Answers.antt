@@ -3,11 +3,12 @@ use borrow.Author.Tests.{eq-eqb, ne_eqb}
 use Rattle.kinds.specs.Case.{count_not_allowed}
 use Rattle.kinds.specs.Patterns.{bounds_of}
 use Rattle.kinds.proofs.count_not_allowed.Goals as goal
+use Rattle.kinds.proofs.count_not_allowed.Goals.{then-row-eq0, else-row-eq0}
 
-pub returns-then-row-eq0 : goal.returns-then-row-eq0
+pub returns : goal.returns
 unfolding count_not_allowed bounds_of
-returns-then-row-eq0 c = rw (c.outside.ensures, c.bounds_of-bounds.ensures, eq-eqb _ _ c.if-row-eq0.true)
-
-pub returns-else-row-eq0 : goal.returns-else-row-eq0
-unfolding count_not_allowed bounds_of
-returns-else-row-eq0 c = rw (c.outside-else-row-eq0.ensures, c.bounds_of-bounds.ensures, ne_eqb _ _ c.if-row-eq0.false)
+returns c =
+    elim c.if-row-eq0.branch [
+      | then-row-eq0 w ↦ rw (c.contains.ensures, w.counts-is, c.bounds_of-bounds.ensures, eq-eqb _ _ w.if-row-eq0.true)
+      | else-row-eq0 w ↦ rw (c.contains.ensures, w.counts-is, c.bounds_of-bounds.ensures, ne_eqb _ _ w.if-row-eq0.false)
+    ]

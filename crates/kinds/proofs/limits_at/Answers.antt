@@ -4,6 +4,7 @@ use Rattle.kinds.specs.Case.{kind_at, kinds}
 use Rattle.kinds.specs.Patterns.{limit_pattern, limits_of}
 use Rattle.kinds.proofs.KindTable.{no_kind_lem}
 use Rattle.kinds.proofs.limits_at.Goals as goal
+use native.Mathlib.Omega.{arith}
 
 pub returns-in-1 : goal.returns-in-1
 unfolding kind_at kinds limits_of limit_pattern of_int to_bits
@@ -39,4 +40,4 @@ returns-in-8 c = rw c.in-8.is
 
 pub returns-in_default : goal.returns-in_default
 unfolding kind_at kinds limits_of limit_pattern of_int to_bits
-returns-in_default c = rw (no_kind_lem _ c.in_default.in_default-own.rest)
+returns-in_default c = rw (no_kind_lem c.args.kind (λ h. omega arith))

@@ -5,8 +5,8 @@ use Rattle.kinds.proofs.limits_of.Goals as goal
 
 pub returns-then-row-eq0 : goal.returns-then-row-eq0
 unfolding limits_of
-returns-then-row-eq0 c = rw (c.limits_at-limits.ensures, eq-eqb _ _ c.if-row-eq0.true)
+returns-then-row-eq0 c = rw (c.limits_at.ensures, eq-eqb _ _ c.if-row-eq0.true)
 
 pub returns-else-row-eq0 : goal.returns-else-row-eq0
 unfolding limits_of
-returns-else-row-eq0 c = rw (c.limits_at-limits.ensures, ne_eqb _ _ c.if-row-eq0.false)
+returns-else-row-eq0 c = rw (c.limits_at.ensures, ne_eqb _ _ c.if-row-eq0.false)

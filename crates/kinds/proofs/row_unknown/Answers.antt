@@ -5,4 +5,4 @@ use Rattle.kinds.proofs.row_unknown.Goals as goal
 
 pub returns : goal.returns
 unfolding row_unknown bounds_of
-returns c = rw (c.outside.ensures, c.bounds_of-bounds.ensures)
+returns c = rw (c.contains.ensures, c.bounds_of.ensures, c.from.ensures)

@@ -1,16 +1,23 @@
 -- By the kind, and by the cell of the table.
+use mathlib.Core.Path.{◌≡◌, refl}
+use mathlib.Core.Bool.{Bool, true, false, not}
+use Prim.Native.Nat.{ℕ}
 use borrow.Author.Tests.{eq-eqb, ne_eqb}
+use Rattle.std.proofs.Common.{Option, Some, None, is_some}
+use Rattle.kinds.specs.Polymers.{is_missing}
 use Rattle.kinds.specs.Case.{usage_missing}
 use Rattle.kinds.proofs.usage_missing.Goals as goal
 
-pub returns-then-kind-ne8 : goal.returns-then-kind-ne8
-unfolding usage_missing
-returns-then-kind-ne8 c = rw (ne_eqb _ _ c.if-kind-ne8.true)
+missing : (usage : Option ℕ) (t : Bool) → is_some usage ≡ not t → t ≡ is_missing usage
+missing None true e = refl
+missing None false e = cc
+missing (Some q) true e = cc
+missing (Some q) false e = refl
 
-pub returns-in-NoUsage : goal.returns-in-NoUsage
+pub returns-then-kind-eq8 : goal.returns-then-kind-eq8
 unfolding usage_missing
-returns-in-NoUsage c = rw (eq-eqb _ _ c.if-kind-ne8.false, ← c.usage_of.ensures, c.in-NoUsage.is)
+returns-then-kind-eq8 c = rw (eq-eqb _ _ c.if-kind-eq8.true, ← c.usage_of.ensures) (missing _ _ c.is_none.ensures)
 
-pub returns-in-Tonnes : goal.returns-in-Tonnes
+pub returns-else-kind-eq8 : goal.returns-else-kind-eq8
 unfolding usage_missing
-returns-in-Tonnes c = rw (eq-eqb _ _ c.if-kind-ne8.false, ← c.usage_of.ensures, c.in-Tonnes.is)
+returns-else-kind-eq8 c = rw (ne_eqb _ _ c.if-kind-eq8.false)

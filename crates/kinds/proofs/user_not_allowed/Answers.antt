@@ -5,4 +5,4 @@ use Rattle.kinds.proofs.user_not_allowed.Goals as goal
 
 pub returns : goal.returns
 unfolding user_not_allowed bounds_of
-returns c = rw (c.outside.ensures, c.bounds_of-bounds.ensures)
+returns c = rw (c.contains.ensures, c.bounds_of.ensures, c.from.ensures)

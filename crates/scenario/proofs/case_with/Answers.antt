@@ -1,4 +1,5 @@
 -- By kind; the last arm is kind 8.
+use native.Mathlib.Omega.{arith}
 use borrow.Author.Tests.{ne_eqb}
 use Rattle.scenario.specs.Decoding.{case_with}
 use Rattle.scenario.proofs.case_with.Goals as goal
@@ -34,5 +35,13 @@ returns-in-7 c = rw c.in-7.is
 pub returns-in_default : goal.returns-in_default
 unfolding case_with
 returns-in_default c =
-    let r = c.in_default.in_default-own.rest in
-    rw (ne_eqb _ _ r.0.0.0.0.0.0.1, ne_eqb _ _ r.0.0.0.0.0.1, ne_eqb _ _ r.0.0.0.0.1, ne_eqb _ _ r.0.0.0.1, ne_eqb _ _ r.0.0.1, ne_eqb _ _ r.0.1, ne_eqb _ _ r.1)
+    let k = c.args.kind in
+    rw (
+      ne_eqb k 1 (λ e. omega arith),
+      ne_eqb k 2 (λ e. omega arith),
+      ne_eqb k 3 (λ e. omega arith),
+      ne_eqb k 4 (λ e. omega arith),
+      ne_eqb k 5 (λ e. omega arith),
+      ne_eqb k 6 (λ e. omega arith),
+      ne_eqb k 7 (λ e. omega arith),
+    )

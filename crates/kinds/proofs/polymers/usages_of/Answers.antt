@@ -2,6 +2,7 @@
 use Rattle.kinds.specs.Polymers.{polymers, usages_of}
 use Rattle.kinds.proofs.UsageTable.{no_polymer_lem}
 use Rattle.kinds.proofs.polymers.usages_of.Goals as goal
+use native.Mathlib.Omega.{arith}
 
 pub returns-in-1 : goal.returns-in-1
 unfolding usages_of polymers
@@ -77,4 +78,4 @@ returns-in-18 c = rw c.in-18.is
 
 pub returns-in_default : goal.returns-in_default
 unfolding usages_of polymers
-returns-in_default c = rw (no_polymer_lem _ c.in_default.in_default-own.rest)
+returns-in_default c = rw (no_polymer_lem c.args.row (λ h. omega arith))
