@@ -13,12 +13,15 @@ use Rattle.records.specs.Buffer.{count_at, lines_in, written}
 use Rattle.records.proofs.RecordLaws.{length_first_lines}
 use Rattle.records.proofs.WorstLine.{worst_is_highest}
 use Rattle.records.proofs.Trailer.{sound_facts}
-use Rattle.archive.specs.Offers.{Offer, Within, line_with}
+use Rattle.archive.specs.Offers.{Offer, Within}
 use Rattle.archive.specs.Answers.{line, named, of_filing}
 use Rattle.archive.specs.Archive.{show_refusals, show_refusal, from_state, file_refusals, file_refusal, file_answer, file_bytes, filing, worst_refusals, worst_refusal, worst_answer}
-use Rattle.archive.specs.declared.Filing.TheVariants.{Filed, Refused}
+use Rattle.std.specs.Prelude.{Result, Ok, Err}
+use Rattle.kinds.specs.Number.{number}
+use Rattle.kinds.specs.declared.refusal.Refusal.{Refusal}
 use Rattle.kinds.proofs.Refusals.{none_holds}
-use Rattle.archive.proofs.AnswerLaws.{accepted_refused, of_filing_lem}
+use Rattle.archive.specs.declared.Filed.{Filed}
+use Rattle.archive.proofs.AnswerLaws.{beside, refused_as, of_filing_lem}
 use Rattle.archive.proofs.Refusals.{full_exactly, none_of_all}
 
 -- ── show that is not refused
@@ -53,22 +56,24 @@ free_facts b u o e =
     let n = f.1 in
     record { within = z.0; length_is = s.length_is; room = f.0; fewer = omega (arith, s.few) }
 
-pub file_refused : (b : List ℕ) (u : ℕ) (o : Offer) (r : ℕ) → r ≡ file_refusal b u o → (r ≡ 0 → ⊥)
-    → (Refused r ≡ filing b u o) × (b ≡ file_bytes b u o) × (of_filing (Refused r) u ≡ file_answer b u o)
+pub file_refused : (b : List ℕ) (u : ℕ) (o : Offer) (r : Refusal) → number r ≡ file_refusal b u o
+    → (Err r ≡ filing b u o) × (b ≡ file_bytes b u o) × (of_filing (Err r) u ≡ file_answer b u o)
 unfolding filing
-file_refused b u o r e h =
-    let z : file_refusal b u o ≡ 0 → ⊥ = λ q. h (e ∙ q) in
-    let a : Refused r ≡ filing b u o = ap Refused e ∙ sym (accepted_refused (file_refusal b u o) _ (Refused (file_refusal b u o)) z) in
-    (a, sym (accepted_refused (file_refusal b u o) _ b z), ap (λ f. of_filing f u) a ∙ of_filing_lem b u o)
+file_refused b u o r e =
+    let a : Err r ≡ filing b u o = refused_as r _ e in
+    (a, sym (beside r _ b e), ap (λ f. of_filing f u) a ∙ of_filing_lem b u o)
 
-pub file_accepted : (b : List ℕ) (u : ℕ) (o : Offer) {n : ℕ} {f b' : List ℕ} → file_refusal b u o ≡ 0 → n ≡ count_at b u → f ≡ figures_of o.case → b' ≡ written b n (line_with o f)
-    → (Filed n (u + record_size) ≡ filing b u o) × (b' ≡ file_bytes b u o) × (of_filing (Filed n (u + record_size)) u ≡ file_answer b u o)
+pub file_accepted : (b : List ℕ) (u : ℕ) (o : Offer) {n : ℕ} {c f b' : List ℕ} → file_refusal b u o ≡ 0 → n ≡ count_at b u → c ≡ o.case → f ≡ figures_of o.case
+    → b' ≡ written b n (record { case = c; figures = f })
+    → let a : Result Filed Refusal = Ok (record { number = n; used = u + record_size }) in
+    (a ≡ filing b u o) × (b' ≡ file_bytes b u o) × (of_filing a u ≡ file_answer b u o)
 unfolding filing
-file_accepted b u o {n} e m g w =
+file_accepted b u o {n} e m d g w =
     let h = free_facts b u o e in
     let z : u + record_size ≡ used_length record_size (count_at b u + 1) = omega (arith, h.length_is) in
-    let a : Filed n (u + record_size) ≡ filing b u o = rw (e, z, m) in
-    (a, w ∙ rw (e, m, g), ap (λ f. of_filing f u) a ∙ of_filing_lem b u o)
+    let x : Result Filed Refusal = Ok (record { number = n; used = u + record_size }) in
+    let a : x ≡ filing b u o = rw (e, z, m) in
+    (a, w ∙ rw (e, m, d, g), ap (λ f. of_filing f u) a ∙ of_filing_lem b u o)
 
 -- ── worst that is not refused
 

@@ -1,12 +1,23 @@
--- An answer or a state by the refusal: `accepted_same`, `accepted_map`, `accepted_refused`, `told_as`; two effects that agree tell the same, `same_answer`.
+-- An answer or a state by the refusal: `accepted_same`, `accepted_map`, `accepted_refused`; two effects that agree tell the same, `same_answer`.
+-- Results: a refusal by its number, `refused_as`, `beside`; what a `?` returns, `handed_on`; where each number of a list is a refusal's, `known`: the number of the result, `refused_by`, and what is told of it, `told_as`.
 -- What the functions of this crate say, by their effect: `of_emptying`, `of_filing_lem`, `of_showing`, `of_naming`.
-use mathlib.Core.Path.{◌≡◌, refl, ap}
-use mathlib.Core.List.{List, []}
+use mathlib.Core.Path.{◌≡◌, refl, sym, ap, ◌∙◌}
+use mathlib.Core.Bool.{Bool, true, false, ◌&&◌, cond}
+use mathlib.Core.List.{List, [], ◌∷◌}
 use Prim.Native.Nat.{ℕ, zero, suc}
+use native.Mathlib.Omega.{arith}
+use borrow.Author.Tests.{eqb-true, eqb-false}
+use lib.Dec.{eqb}
+use Rattle.std.specs.Prelude.{Result, Ok, Err, IsErrAnd}
+use Rattle.octets.proofs.Bools.{both}
+use Rattle.kinds.specs.Refusal.{Condition, first_of}
+use Rattle.kinds.specs.Number.{number, refusal_at, refused}
+use Rattle.kinds.specs.declared.refusal.Refusal.{Refusal}
+use Rattle.kinds.proofs.Numbers.{refusal_of_number, number_not_zero}
 use Rattle.archive.specs.Conditions.{accepted}
 use Rattle.archive.specs.Offers.{Offer}
 use Rattle.archive.specs.Answers.{Places, part, Answer, answering, shown, of_emptied, of_filing, of_highest, Effect, refusal_by, answer_by}
-use Rattle.archive.specs.Archive.{empty_refusal, empty_answer, emptying, file_refusal, file_answer, filing, show_effect, show_refusal, show_part, worst_refusal, worst_answer, naming}
+use Rattle.archive.specs.Archive.{empty_refusals, empty_answer, emptying, file_refusals, file_answer, filing, show_effect, show_refusal, show_part, worst_refusals, worst_answer, naming}
 
 -- ── by the refusal
 
@@ -22,11 +33,6 @@ pub accepted_map : {A B : Type 0} (f : A → B) (r : ℕ) (x y : A) → f (accep
 accepted_map f zero x y = refl
 accepted_map f (suc r) x y = refl
 
--- an enum that is x without a refusal and y beside one
-pub told_as : {E : Type 0} (of : E → Answer) (r : ℕ) (x y : E) (p q : Places) → of x ≡ answering 0 p → of y ≡ answering r q → of (accepted r x y) ≡ answering r (accepted r p q)
-told_as of zero x y p q e f = e
-told_as of (suc r) x y p q e f = f
-
 pub same_answer : {S T : Type 0} (e : Effect S) (f : Effect T) → refusal_by e ≡ refusal_by f → (refusal_by f ≡ 0 → e.gives ≡ f.gives) → e.beside ≡ f.beside → answer_by e ≡ answer_by f
 same_answer e f q g s = rw q (ap (answering (refusal_by f)) (go (refusal_by f) g))
   where
@@ -34,20 +40,75 @@ same_answer e f q g s = rw q (ap (answering (refusal_by f)) (go (refusal_by f) g
     go zero h = h refl
     go (suc r) h = s
 
+-- ── results
+
+-- a refusal has another number than 0
+pub has_number : (r : Refusal) → number r ≡ 0 → ⊥
+has_number r = eqb-false (number r) 0 (number_not_zero r)
+
+-- beside a refusal, by its number
+pub beside : {A : Type 0} (r : Refusal) {n : ℕ} (x y : A) → number r ≡ n → accepted n x y ≡ y
+beside r x y e = accepted_refused _ x y (λ z. has_number r (e ∙ z))
+
+-- a refusal by its number, and a result by it
+pub refused_as : {T : Type 0} (r : Refusal) {n : ℕ} (x : Result T Refusal) → number r ≡ n → Err r ≡ accepted n x (Err (refusal_at n))
+refused_as r x e = sym (beside r x _ e ∙ ap Err (ap refusal_at (sym e) ∙ refusal_of_number r))
+
+-- what a `?` returns
+pub handed_on : {T : Type 0} (a : Result T Refusal) (r : Refusal) → IsErrAnd a (λ x. x ≡ r) → a ≡ Err r
+handed_on (Ok x) r h = absurd h
+handed_on (Err x) r h = ap Err h
+
+-- each number in a list is that of its refusal
+abbrev pub known : List Condition → Bool
+known [] = true
+known (c ∷ cs) = eqb (number (refusal_at c.number)) c.number && known cs
+
+first_known : (cs : List Condition) → known cs ≡ true → (first_of cs ≡ 0 → ⊥) → number (refusal_at (first_of cs)) ≡ first_of cs
+first_known [] k h = absurd (h refl)
+first_known (c ∷ cs) k h =
+    let p = both (eqb (number (refusal_at c.number)) c.number) (known cs) k in
+    go c.holds (eqb-true _ _ p.0) (first_known cs p.1) h
+  where
+    go : (t : Bool) → number (refusal_at c.number) ≡ c.number → ((first_of cs ≡ 0 → ⊥) → number (refusal_at (first_of cs)) ≡ first_of cs)
+        → (cond t c.number (first_of cs) ≡ 0 → ⊥) → number (refusal_at (cond t c.number (first_of cs))) ≡ cond t c.number (first_of cs)
+    go true e f h = e
+    go false e f h = f h
+
+-- a result that is x where no condition holds, and otherwise the refusal of the first: its number, and what is told of it
+abbrev pub by_first : {T : Type 0} → List Condition → T → Result T Refusal
+by_first cs x = accepted (first_of cs) (Ok x) (Err (refusal_at (first_of cs)))
+
+module _ {T : Type 0} (cs : List Condition) (k : known cs ≡ true) (x : T) where
+  pub told_as : (of : Result T Refusal → Answer) (p q : Places) → of (Ok x) ≡ answering 0 p → ((r : Refusal) → of (Err r) ≡ answering (number r) q)
+      → of (by_first cs x) ≡ answering (first_of cs) (accepted (first_of cs) p q)
+  told_as of p q e f = go (first_of cs) (first_known cs k)
+    where
+      go : (n : ℕ) → ((n ≡ 0 → ⊥) → number (refusal_at n) ≡ n) → of (accepted n (Ok x) (Err (refusal_at n))) ≡ answering n (accepted n p q)
+      go zero h = e
+      go (suc n) h = f (refusal_at (suc n)) ∙ ap (λ (m : ℕ). answering m q) (h (λ z. omega (arith, z)))
+
+  pub refused_by : refused (by_first cs x) ≡ first_of cs
+  refused_by = go (first_of cs) (first_known cs k)
+    where
+      go : (n : ℕ) → ((n ≡ 0 → ⊥) → number (refusal_at n) ≡ n) → refused (accepted n (Ok x) (Err (refusal_at n))) ≡ n
+      go zero h = refl
+      go (suc n) h = h (λ z. omega (arith, z))
+
 -- ── of the calls
 
 pub of_emptying : (b : List ℕ) → of_emptied (emptying b) ≡ empty_answer b
-unfolding emptying
-of_emptying b = told_as of_emptied (empty_refusal b) _ _ _ _ refl refl
+unfolding empty_refusals emptying refusal_at
+of_emptying b = told_as (empty_refusals b) refl _ of_emptied _ _ refl (λ r. refl)
 
 pub of_filing_lem : (b : List ℕ) (u : ℕ) (o : Offer) → of_filing (filing b u o) u ≡ file_answer b u o
-unfolding filing
-of_filing_lem b u o = told_as (λ a. of_filing a u) (file_refusal b u o) _ _ _ _ refl refl
+unfolding file_refusals filing refusal_at
+of_filing_lem b u o = told_as (file_refusals b u o) refl _ (λ a. of_filing a u) _ _ refl (λ r. refl)
 
 pub of_showing : (b : List ℕ) (u k : ℕ) → shown (show_refusal b u k) (show_part b u k) ≡ answer_by (show_effect b u k)
 unfolding show_part
 of_showing b u k = ap (answering (show_refusal b u k)) (accepted_map part (show_refusal b u k) _ [])
 
 pub of_naming : (b : List ℕ) (u m : ℕ) → of_highest (naming b u m) ≡ worst_answer b u m
-unfolding naming
-of_naming b u m = told_as of_highest (worst_refusal b u m) _ _ _ _ refl refl
+unfolding worst_refusals naming refusal_at
+of_naming b u m = told_as (worst_refusals b u m) refl _ of_highest _ _ refl (λ r. refl)

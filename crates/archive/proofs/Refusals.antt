@@ -15,7 +15,7 @@ use Rattle.octets.proofs.Bools.{neither}
 use Rattle.kinds.proofs.Refusals.{first_of_append, first_of_some}
 use Rattle.archive.specs.Conditions.{full, not_compartment}
 use Rattle.records.specs.Layout.{most_records, record_size}
-use Rattle.archive.specs.Offers.{Offer, own_refusals, Within}
+use Rattle.archive.specs.Offers.{Offer, offer, own_refusals, Within}
 use Rattle.archive.specs.Archive.{from_state, file_refusals, file_refusal}
 
 pub compartment_within : (m : ℕ) → not_compartment m ≡ false → (1 ≤ m) × (m ≤ 4)
@@ -79,3 +79,7 @@ from_state_lem b u o = within_behind o (from_state b u o)
 pub case_refused : (b : List ℕ) (u : ℕ) (o : Offer) (r : ℕ) → r ≡ refusal_of o.case → (r ≡ 0 → ⊥) → r ≡ file_refusal b u o
 unfolding file_refusals refusal_of
 case_refused b u o r e h = first_of_some (refusals o.case) (from_state b u o) r refl e h
+
+-- from the state, where the case has no refusal
+pub behind_case : (b : List ℕ) (u : ℕ) {c d : List ℕ} {r : ℕ} → 0 ≡ refusal_of c → d ≡ c → r ≡ first_of (from_state b u (offer d)) → r ≡ file_refusal b u (offer c)
+behind_case b u {c} z e q = q ∙ rw e (sym (from_state_lem b u (offer c) (record { case_within = sym z })))

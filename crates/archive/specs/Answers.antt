@@ -1,14 +1,11 @@
--- An answer in the paper's numbers: a refusal and its places; what each enum says so; and the effect of a call, from which its answer and what it leaves follow alike for every call.
+-- An answer in the paper's numbers: a refusal and its places; what each result says so; and the effect of a call, from which its answer and what it leaves follow alike for every call.
 -- Paper 01, 'From the state': "the places for figures and record number hold 0 beside it …; the used length comes back as given (empty: 0)".
-use Rattle.std.specs.Prelude.{List, ℕ}
+use Rattle.std.specs.Prelude.{List, ℕ, Result, Ok, Err}
 use Rattle.kinds.specs.Refusal.{Condition, first_of}
+use Rattle.kinds.specs.Number.{number}
+use Rattle.kinds.specs.declared.refusal.Refusal.{Refusal}
 use Rattle.archive.specs.Conditions.{accepted}
-use Rattle.archive.specs.declared.Emptied.{Emptied}
-use Rattle.archive.specs.declared.Emptied.TheVariants.{Used, Refused}
-use Rattle.archive.specs.declared.Filing.{Filing}
-use Rattle.archive.specs.declared.Filing.TheVariants.{Filed, Refused as NotFiled}
-use Rattle.archive.specs.declared.Highest.{Highest}
-use Rattle.archive.specs.declared.Highest.TheVariants.{Number, Refused as NotNamed}
+use Rattle.archive.specs.declared.Filed.{Filed}
 
 -- The places: of empty the used length, of file number and used length, of show the part, of worst the number.
 pub data Places : Type 0 where
@@ -37,20 +34,20 @@ shown r p = answering r (part p)
 abbrev pub named : ℕ → ℕ → Answer
 named r k = answering r (line k)
 
--- ── of each enum
+-- ── of each result
 
-abbrev pub of_emptied : Emptied → Answer
-of_emptied (Used v) = emptied 0 v
-of_emptied (Refused r) = emptied r 0
+abbrev pub of_emptied : Result ℕ Refusal → Answer
+of_emptied (Ok v) = emptied 0 v
+of_emptied (Err r) = emptied (number r) 0
 
 -- of a filing that was given the used length u
-abbrev pub of_filing : Filing → ℕ → Answer
-of_filing (Filed k v) u = filed 0 k v
-of_filing (NotFiled r) u = filed r 0 u
+abbrev pub of_filing : Result Filed Refusal → ℕ → Answer
+of_filing (Ok f) u = filed 0 f.number f.used
+of_filing (Err r) u = filed (number r) 0 u
 
-abbrev pub of_highest : Highest → Answer
-of_highest (Number k) = named 0 k
-of_highest (NotNamed r) = named r 0
+abbrev pub of_highest : Result ℕ Refusal → Answer
+of_highest (Ok k) = named 0 k
+of_highest (Err r) = named (number r) 0
 
 -- ── the used length
 

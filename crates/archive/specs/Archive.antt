@@ -1,6 +1,6 @@
--- What each call does, from the bytes b of the lent archive and a used length u: its effect, and by that the refusal, the answer and the bytes that the contracts cite; and the answer as an enum.
+-- What each call does, from the bytes b of the lent archive and a used length u: its effect, and by that the refusal, the answer and the bytes that the contracts cite; and the answer as a result.
 -- Paper 01, 'The archive', 'From the state, after those, in this order'. Held and worst are the ledger's own, on the lines that the bytes hold.
-use Rattle.std.specs.Prelude.{Bool, cond, List, [], ◌∷◌, ◌++◌, ℕ, ◌+◌, ltb, leb, eqb, length}
+use Rattle.std.specs.Prelude.{Bool, cond, List, [], ◌∷◌, ◌++◌, ℕ, ◌+◌, ltb, leb, eqb, length, Option, Some, None, Result, Ok, Err}
 use Rattle.octets.specs.Bytes.{splice}
 use Rattle.kinds.specs.Refusal.{Condition, ◌when◌, first_of}
 use Rattle.emission.specs.Figures.{figures_of}
@@ -10,12 +10,9 @@ use Rattle.archive.specs.Offers.{Offer, own_refusals, line_with}
 use Rattle.archive.specs.Answers.{start, entry, part, line, Answer, Effect, answer_by, left_by}
 use Rattle.records.specs.Lines.{held, worst_of}
 use Rattle.records.specs.Buffer.{count_at, broken, lines_in, written}
-use Rattle.archive.specs.declared.Emptied.{Emptied}
-use Rattle.archive.specs.declared.Emptied.TheVariants.{Used, Refused}
-use Rattle.archive.specs.declared.Filing.{Filing}
-use Rattle.archive.specs.declared.Filing.TheVariants.{Filed, Refused as NotFiled}
-use Rattle.archive.specs.declared.Highest.{Highest}
-use Rattle.archive.specs.declared.Highest.TheVariants.{Number, Refused as NotNamed}
+use Rattle.kinds.specs.Number.{refusal_at}
+use Rattle.kinds.specs.declared.refusal.Refusal.{Refusal}
+use Rattle.archive.specs.declared.Filed.{Filed}
 
 -- ── empty
 
@@ -34,8 +31,8 @@ empty_answer b = answer_by (empty_effect b)
 abbrev pub empty_bytes : List ℕ → List ℕ
 empty_bytes b = left_by (empty_effect b) b
 
-unfoldable pub emptying : List ℕ → Emptied
-emptying b = accepted (empty_refusal b) (Used trailer_size) (Refused (empty_refusal b))
+unfoldable pub emptying : List ℕ → Result ℕ Refusal
+emptying b = accepted (empty_refusal b) (Ok trailer_size) (Err (refusal_at (empty_refusal b)))
 
 -- ── file
 
@@ -68,11 +65,11 @@ file_answer b u o = answer_by (file_effect b u o)
 abbrev pub file_bytes : List ℕ → ℕ → Offer → List ℕ
 file_bytes b u o = left_by (file_effect b u o) b
 
-unfoldable pub filing : List ℕ → ℕ → Offer → Filing
+unfoldable pub filing : List ℕ → ℕ → Offer → Result Filed Refusal
 filing b u o =
     accepted (file_refusal b u o)
-    (Filed (count_at b u) (used_length record_size (count_at b u + 1)))
-    (NotFiled (file_refusal b u o))
+    (Ok (record { number = count_at b u; used = used_length record_size (count_at b u + 1) }))
+    (Err (refusal_at (file_refusal b u o)))
 
 -- ── show
 
@@ -102,8 +99,8 @@ worst_refusal b u m = first_of (worst_refusals b u m)
 abbrev pub worst_answer : List ℕ → ℕ → ℕ → Answer
 worst_answer b u m = answer_by (worst_effect b u m)
 
-unfoldable pub naming : List ℕ → ℕ → ℕ → Highest
-naming b u m = accepted (worst_refusal b u m) (Number (worst_of m (lines_in b u))) (NotNamed (worst_refusal b u m))
+unfoldable pub naming : List ℕ → ℕ → ℕ → Result ℕ Refusal
+naming b u m = accepted (worst_refusal b u m) (Ok (worst_of m (lines_in b u))) (Err (refusal_at (worst_refusal b u m)))
 
 -- ── the figures of a record
 
@@ -114,3 +111,8 @@ is_record r = eqb (length r) record_size
 -- those of its line, and zeros beside what is no record
 unfoldable pub record_figures : List ℕ → List ℕ
 record_figures r = cond (is_record r) (line_of r).figures (0 ∷ 0 ∷ 0 ∷ 0 ∷ [])
+
+-- the figures that are told of bytes: zeros where none are
+abbrev pub told_figures : Option (List ℕ) → List ℕ
+told_figures (Some f) = f
+told_figures None = 0 ∷ 0 ∷ 0 ∷ 0 ∷ []

@@ -4,6 +4,7 @@
 
 ghost use Rattle.std.specs.Prelude.{◌≡◌};
 ghost use Rattle.octets.specs.Bytes.{number_of};
+ghost use Rattle.kinds.specs.Number.{refused};
 ghost use Rattle.kinds.specs.Case.{refusal_of};
 ghost use Rattle.emission.specs.Figures.{figures_of};
 ghost use Rattle.load.specs.Load.{LoadWithin, load_bytes};
@@ -14,30 +15,34 @@ ghost use Rattle.archive.specs.Archive.{empty_answer, empty_bytes, file_answer, 
 ghost use Rattle.export.specs.Export.{export_bytes, EachWithin};
 ghost use Rattle.csorvelin.specs.Place.{start_shown, length_shown};
 
-use archive::{Emptied, Filing, Highest};
+use archive::Filed;
+use kinds::refusal::Refusal;
 use records::RECORD_SIZE;
+
+// The number that a call returns: 0 for no refusal.
+fn refusal_number<T: Copy>(answer: Result<T, Refusal>) -> u32
+    ensures { result ≡ refused answer }
+{
+    match answer {
+        Ok(_) => 0,
+        Err(refusal) => refusal.number(),
+    }
+}
 
 #[unsafe(no_mangle)]
 pub extern "C" fn csorvelin_work_out(case: &[u8], figures: &mut [u64; 4]) -> u32
     ensures { (result ≡ refusal_of case.now) × (figures.new ≡ figures_of case.now) }
 {
-    emission::work_out_into(case, figures)
+    refusal_number(emission::work_out_into(case, figures))
 }
 
 #[unsafe(no_mangle)]
 pub extern "C" fn csorvelin_empty(archive: &mut [u8], used: &mut u64) -> u32
     ensures { (emptied result used.new ≡ empty_answer archive.old) × (archive.new ≡ empty_bytes archive.old) }
 {
-    match archive::empty(archive) {
-        Emptied::Used(length) => {
-            *used = length;
-            0
-        }
-        Emptied::Refused(refusal) => {
-            *used = 0;
-            refusal
-        }
-    }
+    let emptied = archive::empty(archive);
+    *used = emptied.unwrap_or(0);
+    refusal_number(emptied)
 }
 
 // The used length goes in and comes out, as given beside a refusal.
@@ -51,21 +56,14 @@ pub extern "C" fn csorvelin_file(
     ensures { (filed result number.new used.new ≡ file_answer archive.old used.old (offer case.now)) × (archive.new ≡ file_bytes archive.old used.old (offer case.now)) }
 {
     let given = *used;
-    match archive::file(archive, given, case) {
-        Filing::Filed {
-            number: place,
-            used: after,
-        } => {
-            *number = place;
-            *used = after;
-            0
-        }
-        Filing::Refused(refusal) => {
-            *number = 0;
-            *used = given;
-            refusal
-        }
-    }
+    let answer = archive::file(archive, given, case);
+    let filed = answer.unwrap_or(Filed {
+        number: 0,
+        used: given,
+    });
+    *number = filed.number;
+    *used = filed.used;
+    refusal_number(answer)
 }
 
 // Gives the record's place in the archive: the offset of its first byte, and its length.
@@ -79,11 +77,10 @@ pub extern "C" fn csorvelin_show(
 ) -> u32
     ensures { (result ≡ show_refusal archive.now used number) × (start.new ≡ start_shown archive.now used number) × (length.new ≡ length_shown archive.now used number) × (bytes_at archive.now start.new length.new ≡ show_part archive.now used number) }
 {
-    let refusal = archive::show_refusal(archive, used, number);
-    if refusal != 0 {
+    if let Err(refusal) = archive::show_refusal(archive, used, number) {
         *start = 0;
         *length = 0;
-        return refusal;
+        return refusal.number();
     }
     *start = RECORD_SIZE as u64 * number;
     *length = RECORD_SIZE as u64;
@@ -99,16 +96,9 @@ pub extern "C" fn csorvelin_worst(
 ) -> u32
     ensures { named result number.new ≡ worst_answer archive.now used compartment }
 {
-    match archive::worst(archive, used, compartment) {
-        Highest::Number(highest) => {
-            *number = highest;
-            0
-        }
-        Highest::Refused(refusal) => {
-            *number = 0;
-            refusal
-        }
-    }
+    let highest = archive::worst(archive, used, compartment);
+    *number = highest.unwrap_or(0);
+    refusal_number(highest)
 }
 
 // The load of a figure. Nothing is refused.
@@ -133,7 +123,6 @@ pub extern "C" fn csorvelin_export(
     ensures within { result ≡ 0 → EachWithin archive.now number loads.new }
 {
     let exported = export::export(archive, used, number);
-    let bytes = exported.loads;
-    *loads = bytes;
-    exported.refusal
+    *loads = exported.unwrap_or([0; 32]);
+    refusal_number(exported)
 }

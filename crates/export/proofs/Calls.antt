@@ -14,10 +14,11 @@ use Rattle.octets.specs.Bytes.{number_at}
 use Rattle.load.specs.Load.{exactly}
 use Rattle.load.proofs.Micrograms.{InMicrograms, in_micrograms}
 use Rattle.kinds.specs.Refusal.{IsFirst}
+use Rattle.kinds.specs.Number.{refused}
 use Rattle.kinds.proofs.Refusals.{first_of_is_first}
 use Rattle.emission.specs.Called.{Called, ends}
 use Rattle.archive.specs.Archive.{show_refusals}
-use Rattle.export.specs.Export.{EachWithin}
+use Rattle.export.specs.Export.{loads_in, EachWithin}
 use Rattle.export.proofs.EachLoad.{exported_refused}
 use Rattle.export.proofs.export.Kinds as export_kinds
 use Rattle.export.proofs.export.Reads as export_reads
@@ -44,22 +45,22 @@ module _ (call : ExportCall) where
   abbrev k : ℕ
   k = call.args.1.1.0
 
-  pub export_refusal_first : IsFirst (show_refusals b u k) call.result.refusal
+  pub export_refusal_first : IsFirst (show_refusals b u k) (refused call.result)
   export_refusal_first = subst (IsFirst (show_refusals b u k)) (sym call.kept.0.0) (first_of_is_first _)
 
-  pub export_within : call.result.refusal ≡ 0 → EachWithin b k call.result.loads
+  pub export_within : refused call.result ≡ 0 → EachWithin b k (loads_in call.result)
   export_within e = call.kept.1 e
 
   -- load i of the four and its figure, in plain numbers
-  pub export_in_micrograms : call.result.refusal ≡ 0 → (i : ℕ) → i < 4 → InMicrograms (number_at b (96 * k + (64 + 8 * i)) 8) (number_at call.result.loads (8 * i) 8)
+  pub export_in_micrograms : refused call.result ≡ 0 → (i : ℕ) → i < 4 → InMicrograms (number_at b (96 * k + (64 + 8 * i)) 8) (number_at (loads_in call.result) (8 * i) 8)
   export_in_micrograms e i h = in_micrograms _ _ (call.kept.1 e i h)
 
   -- and every binary64 that is at least the figure is at least the load
-  pub export_smallest : call.result.refusal ≡ 0 → (i other : ℕ) → i < 4 → T (le (exactly (number_at b (96 * k + (64 + 8 * i)) 8)) (of_bits binary64 other))
-      → T (le (of_bits binary64 (number_at call.result.loads (8 * i) 8)) (of_bits binary64 other))
+  pub export_smallest : refused call.result ≡ 0 → (i other : ℕ) → i < 4 → T (le (exactly (number_at b (96 * k + (64 + 8 * i)) 8)) (of_bits binary64 other))
+      → T (le (of_bits binary64 (number_at (loads_in call.result) (8 * i) 8)) (of_bits binary64 other))
   export_smallest e i other h = (call.kept.1 e i h).is_smallest.smallest other
 
-  pub export_refused : (call.result.refusal ≡ 0 → ⊥) → call.result.loads ≡ replicate 32 0
+  pub export_refused : (refused call.result ≡ 0 → ⊥) → loads_in call.result ≡ replicate 32 0
   export_refused h = call.kept.0.1 ∙ exported_refused b u k (λ z. h (call.kept.0.0 ∙ z))
 
   pub export_reads_only : (ends call).0.now ≡ b

@@ -1,10 +1,10 @@
--- Loads one behind another: `loads_written` (four patterns written as numbers of 8 bytes), `loads_place` (where each stands), `length_loads`.
-use mathlib.Core.Path.{◌≡◌, refl, sym, ap, ◌∙◌}
+-- Loads one behind another: `loads_written` (patterns written as numbers of 8 bytes), `loads_place` (where each stands), `length_loads`.
+use mathlib.Core.Path.{◌≡◌, refl, sym, ap, ◌∙◌, subst}
 use mathlib.Core.List.{List, [], ◌∷◌, map}
 use Prim.Native.Nat.{ℕ, ◌*◌, ◌<◌}
 use native.Mathlib.Omega.{arith}
 use lib.ListN.{length, get_or, replicate, length-map, get_or-map}
-use lib.Seq.{take_all}
+use lib.Seq.{take_all, ext_get_or}
 use Rattle.octets.specs.Bytes.{bytes_of, splice}
 use Rattle.load.specs.Load.{load_pattern, load_bytes}
 use Rattle.records.specs.Layout.{figure_bytes, bytes_at}
@@ -19,17 +19,23 @@ as_numbers [] = refl
 as_numbers (f ∷ fs) = rw (as_numbers fs)
 
 -- 32 bytes written over 32
-all_places : (w x y z : ℕ) → splice (replicate 32 0) 0 (figure_bytes (w ∷ x ∷ y ∷ z ∷ [])) ≡ figure_bytes (w ∷ x ∷ y ∷ z ∷ [])
+four_places : (w x y z : ℕ) → splice (replicate 32 0) 0 (figure_bytes (w ∷ x ∷ y ∷ z ∷ [])) ≡ figure_bytes (w ∷ x ∷ y ∷ z ∷ [])
 unfolding splice figure_bytes bytes_of
-all_places w x y z = refl
+four_places w x y z = refl
 
-pub loads_written : (f : List ℕ) {b : List ℕ} {w x y z : ℕ} → length f ≡ 4
-    → w ≡ load_pattern (get_or f 0 0) → x ≡ load_pattern (get_or f 1 0) → y ≡ load_pattern (get_or f 2 0) → z ≡ load_pattern (get_or f 3 0)
-    → b ≡ splice (replicate 32 0) 0 (figure_bytes (w ∷ x ∷ y ∷ z ∷ [])) → b ≡ loads_of f
-loads_written f {b} {w} {x} {y} {z} l p q r s e =
-    let four = sym (take_all 4 f (omega arith)) ∙ first_four f (omega arith) in
-    let g : w ∷ x ∷ y ∷ z ∷ [] ≡ map load_pattern f = rw (p, q, r, s) (sym (ap (map load_pattern) four)) in
-    e ∙ all_places w x y z ∙ ap figure_bytes g ∙ sym (as_numbers f)
+all_places : (ps : List ℕ) → length ps ≡ 4 → splice (replicate 32 0) 0 (figure_bytes ps) ≡ figure_bytes ps
+all_places ps l =
+    let four = sym (take_all 4 ps (omega arith)) ∙ first_four ps (omega arith) in
+    subst (λ (qs : List ℕ). splice (replicate 32 0) 0 (figure_bytes qs) ≡ figure_bytes qs) (sym four) (four_places _ _ _ _)
+
+-- patterns ps, each that of its figure
+pub loads_written : (f ps : List ℕ) {b : List ℕ} → length f ≡ 4 → length ps ≡ 4 → ((i : ℕ) → i < 4 → get_or ps i 0 ≡ load_pattern (get_or f i 0))
+    → b ≡ splice (replicate 32 0) 0 (figure_bytes ps) → b ≡ loads_of f
+unfolding load_pattern
+loads_written f ps l m each e =
+    let n = length-map f load_pattern in
+    let g : ps ≡ map load_pattern f = ext_get_or 0 ps (map load_pattern f) (m ∙ sym (n ∙ l)) (λ i h. each i (omega arith) ∙ sym (get_or-map load_pattern f i 0)) in
+    e ∙ all_places ps m ∙ ap figure_bytes g ∙ sym (as_numbers f)
 
 pub loads_place : (fs : List ℕ) (i : ℕ) → i < length fs → bytes_at (loads_of fs) (8 * i) 8 ≡ load_bytes (get_or fs i 0)
 unfolding load_bytes load_pattern

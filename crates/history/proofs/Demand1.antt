@@ -7,15 +7,19 @@ use mathlib.Core.Path.{◌≡◌, refl, sym, ◌∙◌, subst}
 use mathlib.Core.List.{List}
 use Prim.Native.Nat.{ℕ}
 use contract.Lifetimes.{Lfts}
+use Rattle.std.specs.Prelude.{Result, Ok, Err}
 use Rattle.kinds.specs.Refusal.{Condition, first_of, IsFirst}
+use Rattle.kinds.specs.Number.{refusal_at, refused}
+use Rattle.kinds.specs.declared.refusal.Refusal.{Refusal}
 use Rattle.kinds.proofs.Refusals.{first_of_is_first, first_is_first_of}
 use Rattle.records.specs.Lines.{IsWorst}
 use Rattle.records.specs.Buffer.{lines_in}
 use Rattle.emission.specs.Called.{ends}
 use Rattle.emission.proofs.Demand2.{WorkOutCall}
+use Rattle.archive.specs.Conditions.{accepted}
 use Rattle.archive.specs.Answers.{named, Effect, refusal_by}
 use Rattle.archive.specs.Archive.{emptying, filing, show_part, naming}
-use Rattle.archive.proofs.AnswerLaws.{accepted_refused}
+use Rattle.archive.proofs.AnswerLaws.{accepted_refused, refused_as}
 use Rattle.archive.proofs.Accepted.{worst_told}
 use borrow.Fn.Kinds as kinds
 use Rattle.scenario.proofs.decode.Kinds as decode_kinds
@@ -89,11 +93,16 @@ module _ {W : Way} (l : Lawful W) (call : W.Call) (u : ℕ) (f : List ℕ) where
   pub named_worst : (m k : ℕ) → s.request ≡ worst m → s.answer ≡ named 0 k → IsWorst m (lines_in s.before s.used) k
   named_worst m k q a = worst_told s.before s.used m k (sym a ∙ (does_as d q).answer_is)
 
+-- a result that has a refusal alone, by its number
+unit_as : (a : Result (Unit {0}) Refusal) → a ≡ accepted (refused a) (Ok tt) (Err (refusal_at (refused a)))
+unit_as (Ok x) = refl
+unit_as (Err r) = refused_as r (Ok tt) refl
+
 returned : (call : ArchiveCall) (u : ℕ) (f : List ℕ) → Returned call (archive_seen call u f).answer.refusal
 unfolding emptying filing show_part naming
 returned (empties k) u f = rw (way_refusal direct_lawful (empties k) u f) k.kept.0
 returned (files k) u f = rw (way_refusal direct_lawful (files k) u f) k.kept.0
-returned (shows k t s) u f = rw (way_refusal direct_lawful (shows k t s) u f) (refl, k.kept)
+returned (shows k t s) u f = (unit_as t.result, k.kept ∙ rw (sym (way_refusal direct_lawful (shows k t s) u f)))
 returned (names k) u f = rw (way_refusal direct_lawful (names k) u f) k.kept.0
 
 pub refusals_in_order : (call : ArchiveCall) (u : ℕ) (f : List ℕ) → SeenInOrder (archive_seen call u f) × Returned call (archive_seen call u f).answer.refusal

@@ -7,13 +7,12 @@ use mathlib.Core.Path.{◌≡◌, refl, ap}
 use mathlib.Core.List.{List, []}
 use Prim.Native.Nat.{ℕ, ◌+◌, ◌*◌, ◌<◌}
 use lib.ListN.{length}
+use Rattle.std.specs.Prelude.{Ok}
 use Rattle.emission.specs.Called.{ends}
 use Rattle.records.specs.Fields.{fields, trailer_fields}
 use Rattle.archive.specs.Offers.{Offer, offer}
 use Rattle.archive.specs.Answers.{emptied, filed, of_emptied, of_filing}
 use Rattle.archive.specs.Left.{FieldLeft, TrailerLeft}
-use Rattle.archive.specs.declared.Emptied.TheVariants.{Used}
-use Rattle.archive.specs.declared.Filing.TheVariants.{Filed}
 use Rattle.history.specs.Ledger.{file}
 use Rattle.history.specs.Seen.{Way}
 use Rattle.history.specs.Calls.{EmptyCall, FileCall, empties, files, WorkedOut}
@@ -28,7 +27,7 @@ way_field l call o q n v e f w k h = rw (worked_figures (l.worked o.case f w)) (
 
 -- ── of the functions
 
-module _ (call : FileCall) (n v : ℕ) (accepted : call.result ≡ Filed n v) where
+module _ (call : FileCall) (n v : ℕ) (accepted : call.result ≡ Ok (record { number = n; used = v })) where
   abbrev case : List ℕ
   case = call.args.1.1.0.now
 
@@ -42,7 +41,7 @@ module _ (call : FileCall) (n v : ℕ) (accepted : call.result ≡ Filed n v) wh
   pub each_trailer_field : (k : ℕ) → k < length trailer_fields → TrailerLeft (96 * n + 96) (n + 1) (ends call).0.now k
   each_trailer_field = ((bytes_left (files call) 0 []).by_file (offer case) [] refl n v answered).1.in_trailer
 
-pub emptied_trailer_field : (call : EmptyCall) (v : ℕ) → call.result ≡ Used v → (k : ℕ) → k < length trailer_fields → TrailerLeft 0 0 (ends call).0.now k
+pub emptied_trailer_field : (call : EmptyCall) (v : ℕ) → call.result ≡ Ok v → (k : ℕ) → k < length trailer_fields → TrailerLeft 0 0 (ends call).0.now k
 emptied_trailer_field call v e = ((bytes_left (empties call) 0 []).by_empty refl v (ap of_emptied e)).1.in_trailer
 
 -- ── from C, where the result is 0 and the number stands in the caller's variable

@@ -8,6 +8,9 @@ use native.Mathlib.Nat.{not-suc-le-zero}
 use native.Mathlib.Omega.{arith}
 use borrow.Author.Tests.{le-ltb}
 use lib.ListN.{length}
+use Rattle.std.specs.Prelude.{Ok, Err}
+use Rattle.kinds.specs.Number.{refusal_at}
+use Rattle.kinds.specs.declared.refusal.Refusal.TheVariants.{Full}
 use Rattle.kinds.specs.Refusal.{first_of}
 use Rattle.records.specs.Layout.{Line, used_length, record_size}
 use Rattle.records.specs.Lines.{IsHeld}
@@ -18,7 +21,6 @@ use Rattle.archive.specs.Conditions.{full}
 use Rattle.archive.specs.Offers.{Offer, offer, Within}
 use Rattle.archive.specs.Archive.{empty_refusals, file_refusal, filing}
 use Rattle.archive.specs.Answers.{Answer, emptied, filed}
-use Rattle.archive.specs.declared.Filing.TheVariants.{Filed, Refused}
 use Rattle.archive.proofs.Refusals.{full_exactly, full_short, full_most, within_behind, from_state_lem}
 use Rattle.history.specs.Calls.{FileCall}
 use Rattle.history.specs.Ledger.{Request, empty, file, from_lines, judged_file, answer, lines}
@@ -49,10 +51,10 @@ module _ (call : FileCall) where
   by_space e s h = from_state_lem b u o e ∙ rw (s, not_held (lines_in b u) o.case h)
 
   pub file_exactly : Within o → broken b u ≡ false → (IsHeld (lines_in b u) o.case → ⊥)
-      → (u + 96 ≤ length b → count_at b u < 1000000 → call.result ≡ Filed (count_at b u) (u + 96))
-      × (length b < u + 96 → call.result ≡ Refused 23)
-      × (count_at b u ≡ 1000000 → call.result ≡ Refused 23)
-  unfolding filing
+      → (u + 96 ≤ length b → count_at b u < 1000000 → call.result ≡ Ok (record { number = count_at b u; used = u + 96 }))
+      × (length b < u + 96 → call.result ≡ Err Full)
+      × (count_at b u ≡ 1000000 → call.result ≡ Err Full)
+  unfolding filing refusal_at
   file_exactly e s h =
       let r = by_space e s h in
       let k : used_length record_size (count_at b u + 1) ≡ u + 96 = omega (arith, (sound_facts b u s).length_is) in (

@@ -3,6 +3,7 @@
 use mathlib.Core.Path.{◌≡◌, refl, sym, ap, ◌∙◌, subst}
 use mathlib.Core.List.{List}
 use Prim.Native.Nat.{ℕ}
+use Rattle.kinds.specs.Number.{refused}
 use Rattle.emission.specs.Figures.{figures_of}
 use Rattle.archive.specs.Answers.{Answer, shown, refusal_by, answer_by, left_by}
 use Rattle.archive.specs.Archive.{show_refusal}
@@ -43,7 +44,7 @@ turn_does l {u = u} t = subst Does t.seen (l.does t.call u t.figures)
 
 -- ── the functions of `archive`
 
-pub told_is : (call : ShowCall) (told : ShowRefusalCall) → SameArguments call told → told.result ≡ show_refusal call.args.0.now call.args.1.0 call.args.1.1.0
+pub told_is : (call : ShowCall) (told : ShowRefusalCall) → SameArguments call told → refused told.result ≡ show_refusal call.args.0.now call.args.1.0 call.args.1.1.0
 told_is call told s = told.kept ∙ λ i. show_refusal (s.archive i) (s.used i) (s.number i)
 
 direct_does : (call : ArchiveCall) (u : ℕ) (f : List ℕ) → Does (archive_seen call u f)

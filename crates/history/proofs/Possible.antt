@@ -1,18 +1,23 @@
 -- That there are such calls, runs and histories: each request can be made on any buffer at any used length, with the answer and the bytes of its effect (`direct_can`),
 -- so every list of requests has a history from every buffer of 16 bytes or more (`history_can`). Of any way of which this is so: `run_by`, `history_by`.
-use mathlib.Core.Path.{◌≡◌, refl}
+use mathlib.Core.Path.{◌≡◌, refl, sym, ◌∙◌}
 use mathlib.Core.List.{List, [], ◌∷◌}
-use Prim.Native.Nat.{ℕ, ◌≤◌}
+use Prim.Native.Nat.{ℕ, zero, suc, ◌≤◌}
+use native.Mathlib.Omega.{arith}
+use Rattle.std.specs.Prelude.{Ok, Err}
 use base.Fml.{Lft}
 use borrow.Author.Tests.{le-ltb}
 use denote.MutBor.{MutBor}
 use denote.Ref.{Bor}
 use lib.ListN.{length}
-use Rattle.kinds.specs.Case.{refusal_of}
-use Rattle.emission.specs.Figures.{figures_of}
+use Rattle.kinds.specs.Number.{refusal_at}
+use Rattle.kinds.specs.Case.{refusals, refusal_of}
+use Rattle.emission.specs.Figures.{figures_of, figures_in}
+use Rattle.emission.proofs.Accepted.{figures_refused}
+use Rattle.archive.specs.Conditions.{accepted}
 use Rattle.archive.specs.Answers.{Answer, emptied, handed, answer_by, left_by}
-use Rattle.archive.specs.Archive.{empty_refusals, empty_bytes, emptying, file_bytes, filing, show_refusal, show_part, naming}
-use Rattle.archive.proofs.AnswerLaws.{of_emptying, of_filing_lem, of_naming}
+use Rattle.archive.specs.Archive.{empty_refusals, empty_bytes, emptying, file_bytes, filing, show_refusals, show_part, naming}
+use Rattle.archive.proofs.AnswerLaws.{by_first, refused_by, of_emptying, of_filing_lem, of_naming}
 use Rattle.history.specs.Ledger.{Request, empty, file, show, worst}
 use Rattle.history.specs.Seen.{effect, seeing, Way}
 use Rattle.history.specs.Calls.{empties, files, shows, names, WorkedOut, direct}
@@ -68,9 +73,18 @@ lent x = record { ref_ptr = (0, 0); now = x }
 unfoldable pub lent_to_write : {A : Type 0} → A → MutBor A
 lent_to_write x = record { ref_ptr = (0, 0); ghost_name = 0; now = x }
 
+-- what work out gives of a case
+figures_worked : (c : List ℕ) → figures_in (by_first (refusals c) (figures_of c)) ≡ figures_of c
+unfolding refusal_of
+figures_worked c = go (refusal_of c) refl
+  where
+    go : (n : ℕ) → refusal_of c ≡ n → figures_in (accepted n (Ok (figures_of c)) (Err (refusal_at n))) ≡ figures_of c
+    go zero e = refl
+    go (suc n) e = figures_refused c (λ z. omega (arith, e, z))
+
 module _ (κ : Lft) where
   direct_turn : (c : Request) → FedBy WorkedOut c → (b : List ℕ) (u : ℕ) → TurnBy direct c b u (told c b u) (left c b u)
-  unfolding lent lent_to_write
+  unfolding lent lent_to_write show_refusals refusal_at
   direct_turn empty d b u = made direct_lawful (empties (record { κs = (κ, tt); args = (lent_to_write b, tt); result = emptying b; last = (empty_bytes b, tt); kept = (refl, refl, of_emptying b) })) u [] refl d
   direct_turn (file o f) d b u =
       made direct_lawful
@@ -78,19 +92,19 @@ module _ (κ : Lft) where
   direct_turn (show k) d b u =
       made direct_lawful
       (shows (record { κs = (κ, tt); args = (lent b, (u, (k, tt))); result = lent (show_part b u k); last = (tt, (tt, (tt, tt))); kept = refl })
-      (record { κs = (κ, tt); args = (lent b, (u, (k, tt))); result = show_refusal b u k; last = (tt, (tt, (tt, tt))); kept = refl })
+      (record { κs = (κ, tt); args = (lent b, (u, (k, tt))); result = by_first (show_refusals b u k) tt; last = (tt, (tt, (tt, tt))); kept = refused_by (show_refusals b u k) refl tt })
       (record { archive = refl; used = refl; number = refl })) u [] refl d
   direct_turn (worst m) d b u =
       made direct_lawful (names (record { κs = (κ, tt); args = (lent b, (u, (m, tt))); result = naming b u m; last = (tt, (tt, (tt, tt))); kept = (refl, of_naming b u m) })) u [] refl d
 
   pub direct_can : Can direct
-  unfolding lent
+  unfolding lent refusal_of refusal_at
   direct_can = record {
     turn = direct_turn;
     work_out = λ c f e. record {
-      call = record { κs = (κ, tt); args = (lent c, tt); result = record { refusal = refusal_of c; figures = figures_of c }; last = (tt, tt); kept = (refl, refl) };
+      call = record { κs = (κ, tt); args = (lent c, tt); result = by_first (refusals c) (figures_of c); last = (tt, tt); kept = (refused_by (refusals c) refl (figures_of c), figures_worked c) };
       on = refl;
-      gave = e;
+      gave = e ∙ sym (figures_worked c);
     };
   }
 

@@ -1,24 +1,18 @@
 -- The tests are those of the list of refusals, in its order.
-use mathlib.Core.Path.{sym, ◌∙◌}
 use native.Mathlib.Omega.{arith}
 use borrow.Author.Tests.{le-leb, lt-leb}
 use Rattle.archive.specs.Archive.{show_refusals}
-use Rattle.records.proofs.Trailer.{sound_facts}
+use Rattle.archive.proofs.AnswerLaws.{handed_on}
 use Rattle.archive.proofs.show_refusal.Goals as goal
 
-pub returns-then-is_broken : goal.returns-then-is_broken
+pub returns-in_err-n : goal.returns-in_err-n
 unfolding show_refusals
-returns-then-is_broken c = rw (sym c.is_broken.ensures ∙ c.if-is_broken.true)
+returns-in_err-n c = let e = c.in_err-n.ensures.broken in rw (handed_on _ _ c.from_residual.ensures.1, e.1, e.0)
 
-pub returns-then-count_at-number : goal.returns-then-count_at-number
+pub returns-then-n-number : goal.returns-then-n-number
 unfolding show_refusals
-returns-then-count_at-number c =
-    rw (sym c.is_broken.ensures ∙ c.if-is_broken.false, ← c.count_at.ensures, le-leb c.count_at.result c.args.number (omega arith))
+returns-then-n-number c = let e = c.in_ok-n.ensures.sound in rw (e.0, ← e.1, le-leb c.in_ok-n.n c.args.number (omega arith))
 
 pub returns : goal.returns
 unfolding show_refusals
-returns c =
-    rw (sym c.is_broken.ensures ∙ c.if-is_broken.false, ← c.count_at.ensures, lt-leb c.count_at.result c.args.number (omega arith))
-
-pub count_at-requires : goal.count_at-requires
-count_at-requires c = let s = sound_facts _ _ (sym c.is_broken.ensures ∙ c.if-is_broken.false) in (s.at_least, s.inside)
+returns c = let e = c.in_ok-n.ensures.sound in rw (e.0, ← e.1, lt-leb c.in_ok-n.n c.args.number (omega arith))

@@ -5,4 +5,5 @@ use Rattle.export.proofs.loads_of.Goals as goal
 
 pub returns : goal.returns
 returns c =
-    loads_written c.args.figures (search rules) c.load_pattern.ensures c.load_pattern-2.ensures c.load_pattern-3.ensures c.load_pattern-4.ensures c.put_figures.ensures
+    let m = c.map.ensures.items in
+    loads_written c.args.figures c.map.result (search rules) m.long (λ i h. (m.at i 0 0 h).2.met) c.put_figures.ensures
