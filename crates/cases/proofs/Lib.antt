@@ -3,5 +3,4 @@ mod WordLaws
 mod NumberLaws
 mod FieldLaws
 mod CallLaws
-mod LineLaws
 mod Example

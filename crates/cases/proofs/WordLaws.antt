@@ -1,7 +1,7 @@
 -- Laws of words, lines and tables.
 --   index_within, found_or_end   the place of a byte, or the end
 --   parts_none, parts_first   a text's first part, and those behind it
---   take_least, drop_least    up to a place or the end, and from there
+--   drop_least, rest_is       what is left from a place or the end on
 --   named_by                  what is found in a table
 use mathlib.Core.Path.{◌≡◌, refl, sym, ap, ◌∙◌}
 use mathlib.Core.Bool.{Bool, true, false, not, cond}
@@ -17,6 +17,7 @@ use lib.Seq.{take_all}
 use Rattle.std.specs.Prelude.{Option, None, Some}
 use Rattle.std.specs.List.{find}
 use Rattle.std.specs.Option.{option_map, unwrap_or}
+use Rattle.std.proofs.lemmas.Grind.{common_steps}
 use Rattle.std.proofs.lemmas.List.Sums.{prefix_len-le-length}
 use Rattle.std.specs.Str.{bytes_eq}
 use Rattle.cases.specs.Words.{index_of, onto, parts_of, line_read, named_in}
@@ -64,25 +65,10 @@ unfolding parts_of
 parts_none s [] h = refl
 parts_none s (b ∷ bs) h = absurd (omega arith)
 
--- ── up to a place or the end
-
-take_by : (k : ℕ) (l : List ℕ) (p : Bool) → leb k (length l) ≡ p → take (min k (length l)) l ≡ take k l
-take_by k l true e = let h = leb-true k (length l) e in let m : min k (length l) ≡ k = omega arith in rw m
-take_by k l false e = let h = leb-false k (length l) e in let m : min k (length l) ≡ length l = omega arith in rw (m, take_all k l (omega arith), take_all (length l) l (omega arith))
-
-pub take_least : (k : ℕ) (l : List ℕ) → take (min k (length l)) l ≡ take k l
-take_least k l = take_by k l (leb k (length l)) refl
-
-drop_by : (k : ℕ) (l : List ℕ) (p : Bool) → leb k (length l) ≡ p → drop (min k (length l)) l ≡ drop k l
-drop_by k l true e = let h = leb-true k (length l) e in let m : min k (length l) ≡ k = omega arith in rw m
-drop_by k l false e =
-    let h = leb-false k (length l) e in
-    let a : length l ≤ min k (length l) = omega arith in
-    let b : length l ≤ k = omega arith in
-    drop_of_length-le l a ∙ sym (drop_of_length-le l b)
+-- ── from a place or the end on
 
 pub drop_least : (k : ℕ) (l : List ℕ) → drop (min k (length l)) l ≡ drop k l
-drop_least k l = drop_by k l (leb k (length l)) refl
+drop_least k l = grind (arith, common_steps)
 
 pub rest_is : (l : List ℕ) (at : ℕ) → take (length l - at) (drop at l) ≡ drop at l
 rest_is l at = take_all (length l - at) (drop at l) (rw length-drop (omega arith))

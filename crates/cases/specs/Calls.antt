@@ -121,6 +121,6 @@ state_on line s = cond (eqb (index_of 35 line) 0) s (state_by (take (index_of 35
 
 -- ── lines, one after another
 
-unfoldable pub state_of : List (List ℕ) → State → State
+abbrev pub state_of : List (List ℕ) → State → State
 state_of [] s = s
 state_of (l ∷ ls) s = state_of ls (state_on l s)

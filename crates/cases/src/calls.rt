@@ -161,8 +161,7 @@ fn worst(output: &mut Output, archive: &[u8], used: u64, compartment: u64) {
 fn print_bytes(output: &mut Output, bytes: &[u8]) {
     for eight in bytes.chunks(8) {
         output.print(" ");
-        for b in eight {
-            let b = *b;
+        for &b in eight {
             output.print(format_args!("{b:02x}"));
         }
     }

@@ -14,11 +14,13 @@ use records::{figures_at, put_line};
 fn list_by(output: &mut Output, archive: &[u8], out: &mut [u8])
     ensures { out.new ≡ listed_bytes archive.now out.old }
 {
-    let mut written = out.len() as u64;
-    match listing::print(archive, out) {
-        Listed::Written(n) => written = n,
-        Listed::Needs(n) => output.print(format_args!(": needs {n}")),
-    }
+    let written = match listing::print(archive, out) {
+        Listed::Written(n) => n,
+        Listed::Needs(n) => {
+            output.print(format_args!(": needs {n}"));
+            out.len() as u64
+        }
+    };
     output.print("\n");
     let end = written.min(out.len() as u64) as usize;
     output.write(&out[..end]);
