@@ -1,17 +1,16 @@
 -- Laws of records made for listings.
---   record_put                             a record put behind the others
---   grown_case, filled_none, filled_more   records that grow
+--   record_put   a record put behind the others
+--   grown_case   one of the records that grow
 use mathlib.Core.Path.{◌≡◌, refl, ap, ◌∙◌}
 use mathlib.Core.List.{List, [], ◌∷◌}
 use Prim.Native.Nat.{ℕ, ◌+◌, ◌*◌, ◌/◌, ◌≤◌}
-use native.Mathlib.Numerals.{add-one}
 use borrow.Author.Tests.{le-leb}
 use lib.ListN.{length, take, set, replicate}
 use Rattle.octets.specs.Bytes.{bytes_of, splice}
 use Rattle.kinds.specs.Builder.{case_bytes}
 use Rattle.records.specs.Layout.{Line, line_of}
 use Rattle.records.specs.Buffer.{written}
-use Rattle.cases.specs.Calls.{recorded_length, recorded_bytes, grown, filled}
+use Rattle.cases.specs.Calls.{recorded_length, recorded_bytes, grown}
 
 -- ── a record
 
@@ -30,11 +29,3 @@ pub grown_case : (k : ℕ) {c : List ℕ} → c ≡ splice (set (set (set (repli
     → ◌≡◌ {A = Line} (record { case = c; figures = (1000 * k) ∷ (1000 * k + 1) ∷ k ∷ 0 ∷ [] }) (grown k)
 unfolding grown case_bytes splice bytes_of
 grown_case k e = rw e
-
-pub filled_none : (b : List ℕ) → b ≡ filled 0 b
-unfolding filled
-filled_none b = refl
-
-pub filled_more : (b : List ℕ) (k : ℕ) {a c : List ℕ} → a ≡ filled k b → c ≡ written a k (grown k) → c ≡ filled (k + 1) b
-unfolding filled
-filled_more b k e w = rw add-one (w ∙ ap (λ l. written l k (grown k)) e)

@@ -1,24 +1,31 @@
 -- Laws of fields.
 --   put_step, put_end, left_step, left_end   a number's bytes, written one after another, and what is left of it
 --   field_set                                a word's field and its number
---   words_step, words_stop, words_end        the words that are left
+--   field_holds                              a field that has a name stands within a record
 use mathlib.Core.Path.{◌≡◌, refl, sym, ap, ◌∙◌}
-use mathlib.Core.List.{List, [], ◌∷◌}
+use mathlib.Core.Bool.{Bool, true, false, ◌&&◌, cond}
+use mathlib.Core.List.{List, [], ◌∷◌, ◌++◌}
 use Prim.Native.Nat.{ℕ, suc, ◌+◌, ◌-◌, ◌/◌, ◌%◌, ◌^◌, ◌≤◌, ◌<◌}
 use native.Mathlib.Nat.{div-one, div-div-eq-div-mul, pow-succ'}
 use native.Mathlib.Omega.{arith}
-use borrow.Author.Tests.{ne_eqb}
+use borrow.Author.Tests.{leb-true, ne_eqb}
+use lib.Dec.{leb}
 use lib.ListN.{length, take, drop, set}
-use Rattle.std.specs.Prelude.{Option, None, Some}
+use Rattle.std.specs.Prelude.{codes, Option, Some}
+use Rattle.std.specs.List.{list_all}
 use Rattle.std.specs.Option.{option_and_then}
+use Rattle.std.specs.Str.{bytes_eq}
+use Rattle.octets.proofs.Bools.{both}
 use Rattle.octets.specs.Bytes.{bytes_of, splice}
 use Rattle.octets.proofs.Numbers.{length_bytes_of}
 use Rattle.octets.proofs.Splice.{splice_nil, splice_join}
 use Rattle.listing.proofs.Stores.{store_one}
 use Rattle.cases.specs.declared.fields.Fields.{Fields}
 use Rattle.cases.specs.declared.fields.Field.{Field}
+use Rattle.cases.specs.declared.fields.Field.TheVariants.{Number, Part, Length}
+use Rattle.cases.specs.Words.{named_in}
 use Rattle.cases.specs.Numbers.{number_in}
-use Rattle.cases.specs.Fields.{field_named, sign_in, field_of, value_of, with_number, with_field, with_fields}
+use Rattle.cases.specs.Fields.{parts, field_named, holds, sign_in, field_of, value_of, with_number, with_field}
 use Rattle.cases.proofs.WordLaws.{rest_is}
 
 -- ── a number's bytes, from the one with number i on
@@ -55,17 +62,28 @@ module _ (word : List ℕ) (f : Fields) {s : ℕ} (e : s ≡ sign_in word) (h : 
   field_set {k = k} a b c d =
       ap (option_and_then (λ y. with_number k y f)) (sym (value_there c d)) ∙ ap (option_and_then (λ j. option_and_then (λ y. with_number j y f) (value_of word))) (sym (field_there a b))
 
--- ── words
+-- ── of a field that has a name, it stands within a record
 
-module _ {ws vs : List (List ℕ)} {w : List ℕ} (f : Fields) {r : Option Fields} (e : ws ≡ w ∷ vs) (a : r ≡ with_field w f) where
-  pub words_step : {g : Fields} → r ≡ Some g → with_fields vs g ≡ with_fields ws f
-  unfolding with_fields
-  words_step b = rw e (ap (option_and_then (with_fields vs)) (sym b ∙ a))
+within : Field → Bool
+within Number = true
+within (Part at w) = leb (at + w) 96
+within Length = true
 
-  pub words_stop : r ≡ None → None ≡ with_fields ws f
-  unfolding with_fields
-  words_stop b = rw e (ap (option_and_then (with_fields vs)) (sym b ∙ a))
+holds_within : (k : Field) → within k ≡ true → holds k
+unfolding within
+holds_within Number h = tt
+holds_within (Part at w) h = leb-true (at + w) 96 h
+holds_within Length h = tt
 
-pub words_end : {ws : List (List ℕ)} (f : Fields) → ws ≡ [] → Some f ≡ with_fields ws f
-unfolding with_fields
-words_end f e = rw e
+beside_name : (b p q : Bool) (x : Field) (r : Option Field) {k : Field} → within x ≡ p → (p && q) ≡ true → (q ≡ true → r ≡ Some k → within k ≡ true) → cond b (Some x) r ≡ Some k → within k ≡ true
+beside_name true p q x r a h i e = let f : within x ≡ true = a ∙ (both p q h).0 in let g : x ≡ _ = cc in ap within (sym g) ∙ f
+beside_name false p q x r a h i e = i (both p q h).1 e
+
+all_within : (name : List ℕ) (ls : List (List ℕ × Field)) {k : Field} → list_all (λ (l : List ℕ × Field). within l.1) ls ≡ true → named_in name ls ≡ Some k → within k ≡ true
+all_within name [] h e = cc
+all_within name (l ∷ ls) h e =
+    beside_name (bytes_eq l.0 name) (within l.1) (list_all (λ (x : List ℕ × Field). within x.1) ls) l.1 (named_in name ls) refl h (all_within name ls) e
+
+pub field_holds : (name : List ℕ) {r : Option Field} {k : Field} → r ≡ field_named name → r ≡ Some k → holds k
+unfolding within
+field_holds name a b = holds_within _ (all_within name ((codes "", Number) ∷ (parts ++ ((codes "length", Length) ∷ []))) refl (sym a ∙ b))

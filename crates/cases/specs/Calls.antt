@@ -13,7 +13,7 @@ use Rattle.cases.specs.declared.state.State.{State}
 use Rattle.cases.specs.Words.{index_of, words_of, named_in}
 use Rattle.cases.specs.Fields.{blank, with_fields, case_in}
 
-unfoldable pub call_named : List ℕ → Option Call
+abbrev pub call_named : List ℕ → Option Call
 call_named name =
     named_in name
     ((codes "empty", Empty)
@@ -48,7 +48,7 @@ unfoldable pub grown : ℕ → Line
 grown k = record { case = case_bytes 4 1 1 0 0 (7 * k + 1) 0 0 0 0 0 0; figures = (1000 * k) ∷ (1000 * k + 1) ∷ k ∷ 0 ∷ [] }
 
 -- the first n of them
-unfoldable pub filled : ℕ → List ℕ → List ℕ
+abbrev pub filled : ℕ → List ℕ → List ℕ
 filled zero b = b
 filled (suc n) b = written (filled n b) n (grown n)
 

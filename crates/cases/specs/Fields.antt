@@ -68,7 +68,7 @@ with_field word f = option_and_then (λ k. option_and_then (λ x. with_number k 
 -- ── words
 
 -- nothing where one is no field
-unfoldable pub with_fields : List (List ℕ) → Fields → Option Fields
+abbrev pub with_fields : List (List ℕ) → Fields → Option Fields
 with_fields [] f = Some f
 with_fields (w ∷ ws) f = option_and_then (with_fields ws) (with_field w f)
 

@@ -12,7 +12,7 @@ abbrev pub further : ℕ → ℕ → ℕ → Option ℕ
 further base x b = option_and_then (λ d. cond (leb base d || ltb 0xfffffffffffffff x) None (Some (base * x + d))) (digit_of b)
 
 -- the value of digits in a base, behind digits whose value is x
-unfoldable pub value_from : ℕ → ℕ → List ℕ → Option ℕ
+abbrev pub value_from : ℕ → ℕ → List ℕ → Option ℕ
 value_from base x [] = Some x
 value_from base x (b ∷ bs) = option_and_then (λ y. value_from base y bs) (further base x b)
 
