@@ -1,30 +1,34 @@
 -- Laws of fields.
---   put_step, put_end, left_step, left_end      a number's bytes, written one after another, and what is left of it
---   nothing_put, number_put                     a number read from text
---   alone_field, alone_value, named_field, named_value   a word's field and its number
---   all_step, all_end, set_step, set_end        the words of what is left of a text
-use mathlib.Core.Path.{◌≡◌, refl, sym, ◌∙◌}
-use mathlib.Core.Bool.{Bool, true, false, not, ◌&&◌, and-true}
-use mathlib.Core.List.{List, [], ◌∷◌}
+--   put_step, put_end, left_step, left_end   a number's bytes, written one after another, and what is left of it
+--   field_set                                a word's field and its number
+--   field_holds                              a field that has a name stands within a record
+use mathlib.Core.Path.{◌≡◌, refl, sym, ap, ◌∙◌}
+use mathlib.Core.Bool.{Bool, true, false, ◌&&◌, cond}
+use mathlib.Core.List.{List, [], ◌∷◌, ◌++◌}
 use Prim.Native.Nat.{ℕ, suc, ◌+◌, ◌-◌, ◌/◌, ◌%◌, ◌^◌, ◌≤◌, ◌<◌}
 use native.Mathlib.Nat.{div-one, div-div-eq-div-mul, pow-succ'}
 use native.Mathlib.Omega.{arith}
-use borrow.Author.Tests.{eq-eqb, ne_eqb}
-use lib.Dec.{eqb}
+use borrow.Author.Tests.{leb-true, ne_eqb}
+use lib.Dec.{leb}
 use lib.ListN.{length, take, drop, set}
+use Rattle.std.specs.Prelude.{codes, Option, Some}
+use Rattle.std.specs.List.{list_all}
+use Rattle.std.specs.Option.{option_and_then}
+use Rattle.std.specs.Str.{bytes_eq}
+use Rattle.octets.proofs.Bools.{both}
 use Rattle.octets.specs.Bytes.{bytes_of, splice}
 use Rattle.octets.proofs.Numbers.{length_bytes_of}
 use Rattle.octets.proofs.Splice.{splice_nil, splice_join}
 use Rattle.listing.proofs.Stores.{store_one}
-use Rattle.cases.specs.declared.numbers.Read.{Read}
-use Rattle.cases.specs.declared.numbers.Read.TheVariants.{Number, Nothing}
-use Rattle.cases.specs.Words.{index_of, words_of, place_in}
+use Rattle.cases.specs.declared.fields.Fields.{Fields}
+use Rattle.cases.specs.declared.fields.Field.{Field}
+use Rattle.cases.specs.declared.fields.Field.TheVariants.{Number, Part, Length}
+use Rattle.cases.specs.Words.{named_in}
 use Rattle.cases.specs.Numbers.{number_in}
-use Rattle.cases.specs.Fields.{field_names, field_at, width_of, sign_in, field_of, value_of, fits, with_number, is_field, with_field, are_fields, with_fields}
-use Rattle.cases.proofs.WordLaws.{rest_of, rest_is, parts_at, parts_end}
+use Rattle.cases.specs.Fields.{parts, field_named, holds, sign_in, field_of, value_of, with_number, with_field}
+use Rattle.cases.proofs.WordLaws.{rest_is}
 
 -- ── a number's bytes, from the one with number i on
-
 module _ (l : List ℕ) (at w i y : ℕ) where
   pub put_step : i < w → at + w ≤ length l → splice (set l (at + i) (y % 256)) (at + (i + 1)) (bytes_of (w - (i + 1)) (y / 256)) ≡ splice l (at + i) (bytes_of (w - i) y)
   unfolding bytes_of
@@ -44,57 +48,42 @@ module _ (w i y : ℕ) where
   pub left_end : w ≤ i → y / 256 ^ (w - i) ≡ y
   left_end h = let d : w - i ≡ 0 = omega arith in rw d (div-one y)
 
--- ── a number read
-
-pub nothing_put : {r : Read} (k : ℕ) (f : List ℕ) → r ≡ Nothing → (false ≡ fits k r) × (f ≡ with_number k r f)
-unfolding fits with_number
-nothing_put k f e = rw e (refl, refl)
-
-pub number_put : {r : Read} (k x : ℕ) (f : List ℕ) {at w left : ℕ} {g : List ℕ} → r ≡ Number x → at ≡ field_at k → w ≡ width_of k → left ≡ x / 256 ^ w
-    → g ≡ splice f at (bytes_of w x) → ((eqb left 0 && not (eqb w 0)) ≡ fits k r) × (g ≡ with_number k r f)
-unfolding fits with_number
-number_put k x f e a b c d = rw (e, d, c, a, b) (refl, refl)
-
 -- ── a word
 
-module _ (word : List ℕ) {s : ℕ} (e : s ≡ sign_in word) where
-  pub alone_field : s ≡ length word → field_of word ≡ 0
-  unfolding field_of
-  alone_field h = rw (eq-eqb (sign_in word) (length word) (sym e ∙ h))
+module _ (word : List ℕ) (f : Fields) {s : ℕ} (e : s ≡ sign_in word) (h : s ≡ length word → ⊥) where
+  field_there : {r : Option Field} {k : Field} → r ≡ field_named (take s word) → r ≡ Some k → field_of word ≡ Some k
+  field_there a b = rw (← e, ne_eqb s (length word) h) (sym a ∙ b)
 
-  pub alone_value : s ≡ length word → value_of word ≡ number_in word
-  unfolding value_of
-  alone_value h = rw (eq-eqb (sign_in word) (length word) (sym e ∙ h))
+  value_there : {q : Option ℕ} {x : ℕ} → q ≡ number_in (take (length word - (s + 1)) (drop (s + 1) word)) → q ≡ Some x → value_of word ≡ Some x
+  value_there a b = rw (← e, ne_eqb s (length word) h) (ap number_in (sym (rest_is word (s + 1))) ∙ sym a ∙ b)
 
-  pub named_field : (s ≡ length word → ⊥) → field_of word ≡ place_in (take s word) field_names
-  unfolding field_of
-  named_field h = rw (e, ne_eqb (sign_in word) (length word) (λ q. h (e ∙ q)))
+  pub field_set : {r : Option Field} {k : Field} {q : Option ℕ} {x : ℕ} → r ≡ field_named (take s word) → r ≡ Some k
+      → q ≡ number_in (take (length word - (s + 1)) (drop (s + 1) word)) → q ≡ Some x → with_number k x f ≡ with_field word f
+  field_set {k = k} a b c d =
+      ap (option_and_then (λ y. with_number k y f)) (sym (value_there c d)) ∙ ap (option_and_then (λ j. option_and_then (λ y. with_number j y f) (value_of word))) (sym (field_there a b))
 
-  pub named_value : (s ≡ length word → ⊥) → value_of word ≡ number_in (rest_of word (s + 1))
-  unfolding value_of
-  named_value h = rw (rest_is word (s + 1), e, ne_eqb (sign_in word) (length word) (λ q. h (e ∙ q)))
+-- ── of a field that has a name, it stands within a record
 
--- ── words
+within : Field → Bool
+within Number = true
+within (Part at w) = leb (at + w) 96
+within Length = true
 
-and_assoc : (a b c : Bool) → ((a && b) && c) ≡ (a && (b && c))
-and_assoc true b c = refl
-and_assoc false b c = refl
+holds_within : (k : Field) → within k ≡ true → holds k
+unfolding within
+holds_within Number h = tt
+holds_within (Part at w) h = leb-true (at + w) 96 h
+holds_within Length h = tt
 
-module _ (l : List ℕ) (at : ℕ) where
-  pub all_step : (a : Bool) {p : Bool} {e : ℕ} → at < length l → e ≡ index_of 32 (rest_of l at) → p ≡ is_field (take e (rest_of l at))
-      → ((a && p) && are_fields (words_of (drop (at + (e + 1)) l))) ≡ (a && are_fields (words_of (drop at l)))
-  unfolding are_fields
-  all_step a {p} {e} h q s = rw (parts_at 32 l at h q, s) (and_assoc a (is_field (take e (rest_of l at))) (are_fields (words_of (drop (at + (e + 1)) l))))
+beside_name : (b p q : Bool) (x : Field) (r : Option Field) {k : Field} → within x ≡ p → (p && q) ≡ true → (q ≡ true → r ≡ Some k → within k ≡ true) → cond b (Some x) r ≡ Some k → within k ≡ true
+beside_name true p q x r a h i e = let f : within x ≡ true = a ∙ (both p q h).0 in let g : x ≡ _ = cc in ap within (sym g) ∙ f
+beside_name false p q x r a h i e = i (both p q h).1 e
 
-  pub all_end : (a : Bool) → length l ≤ at → (a && are_fields (words_of (drop at l))) ≡ a
-  unfolding are_fields
-  all_end a h = rw (parts_end 32 l at h) (and-true a)
+all_within : (name : List ℕ) (ls : List (List ℕ × Field)) {k : Field} → list_all (λ (l : List ℕ × Field). within l.1) ls ≡ true → named_in name ls ≡ Some k → within k ≡ true
+all_within name [] h e = cc
+all_within name (l ∷ ls) h e =
+    beside_name (bytes_eq l.0 name) (within l.1) (list_all (λ (x : List ℕ × Field). within x.1) ls) l.1 (named_in name ls) refl h (all_within name ls) e
 
-  pub set_step : (f : List ℕ) {g : List ℕ} {e : ℕ} → at < length l → e ≡ index_of 32 (rest_of l at) → g ≡ with_field (take e (rest_of l at)) f
-      → with_fields (words_of (drop (at + (e + 1)) l)) g ≡ with_fields (words_of (drop at l)) f
-  unfolding with_fields
-  set_step f h q s = rw (parts_at 32 l at h q, s)
-
-  pub set_end : (f : List ℕ) → length l ≤ at → with_fields (words_of (drop at l)) f ≡ f
-  unfolding with_fields
-  set_end f h = rw (parts_end 32 l at h)
+pub field_holds : (name : List ℕ) {r : Option Field} {k : Field} → r ≡ field_named name → r ≡ Some k → holds k
+unfolding within
+field_holds name a b = holds_within _ (all_within name ((codes "", Number) ∷ (parts ++ ((codes "length", Length) ∷ []))) refl (sym a ∙ b))

@@ -1,7 +1,5 @@
 -- Laws that this program's proofs cite.
 mod WordLaws
-mod NumberLaws
 mod FieldLaws
 mod CallLaws
-mod LineLaws
 mod Example

@@ -1,70 +1,79 @@
--- The fields of a call, 105 bytes: the number of a call that has one, 8 bytes; a record, which is a case of 64 bytes and four figures; and how many
--- bytes of the record are handed over as the case.
-use Rattle.std.specs.Prelude.{Bool, false, true, not, ◌&&◌, cond, List, [], ◌∷◌, ℕ, ◌+◌, ◌-◌, ◌*◌, ◌/◌, ◌^◌, min, leb, eqb, length, take, drop}
-use Rattle.octets.specs.Bytes.{bytes_of, number_at, splice}
-use Rattle.listing.specs.Listing.{codes}
-use Rattle.cases.specs.declared.numbers.Read.{Read}
-use Rattle.cases.specs.declared.numbers.Read.TheVariants.{Number, Nothing}
-use Rattle.cases.specs.Words.{index_of, words_of, place_in}
+-- The fields of a call: the number of a call that has one; a record, which is a case of 64 bytes and four figures; and how many bytes of the
+-- record are handed over as the case.
+use Rattle.std.specs.Prelude.{cond, List, [], ◌∷◌, ◌++◌, ℕ, ◌+◌, ◌/◌, ◌^◌, ◌≤◌, min, ltb, eqb, length, take, drop, set, replicate, codes, Option, None, Some}
+use Rattle.std.specs.Option.{option_and_then}
+use Rattle.octets.specs.Bytes.{bytes_of, splice}
+use Rattle.cases.specs.declared.fields.Fields.{Fields}
+use Rattle.cases.specs.declared.fields.Field.{Field}
+use Rattle.cases.specs.declared.fields.Field.TheVariants.{Number, Part, Length}
+use Rattle.cases.specs.Words.{index_of, named_in}
 use Rattle.cases.specs.Numbers.{number_in}
 
+-- before words set them: route 1, and 64 bytes of the record are the case
+abbrev pub blank : Fields
+blank = record { number = 0; bytes = set (replicate 96 0) 2 1; length = 64 }
+
+-- the fields of a record: the name, where it stands, and how many bytes it has
+abbrev pub parts : List (List ℕ × Field)
+parts =
+    (codes "kind", Part 0 1)
+    ∷ (codes "row", Part 1 1)
+    ∷ (codes "route", Part 2 1)
+    ∷ (codes "user", Part 3 1)
+    ∷ (codes "T", Part 4 4)
+    ∷ (codes "dossier", Part 8 8)
+    ∷ (codes "a", Part 16 8)
+    ∷ (codes "b", Part 24 8)
+    ∷ (codes "c", Part 32 8)
+    ∷ (codes "d", Part 40 8)
+    ∷ (codes "e", Part 48 8)
+    ∷ (codes "f", Part 56 8)
+    ∷ (codes "stp", Part 64 8)
+    ∷ (codes "surface", Part 72 8)
+    ∷ (codes "air", Part 80 8)
+    ∷ (codes "soil", Part 88 8)
+    ∷ []
+
 -- the number has no name
-unfoldable pub field_names : List (List ℕ)
-field_names = words_of (codes " kind row route user T dossier a b c d e f stp surface air soil length")
+abbrev pub field_named : List ℕ → Option Field
+field_named name = named_in name ((codes "", Number) ∷ (parts ++ ((codes "length", Length) ∷ [])))
 
--- where the field of a place among the names stands, and how many bytes it has: none where there is no such field
-unfoldable pub field_at : ℕ → ℕ
-field_at k = cond (eqb k 0) 0 (cond (leb k 4) (7 + k) (cond (eqb k 5) 12 (cond (leb k 16) (8 * (k - 4)) 104)))
-
-unfoldable pub width_of : ℕ → ℕ
-width_of k = cond (eqb k 0) 8 (cond (leb k 4) 1 (cond (eqb k 5) 4 (cond (leb k 16) 8 (cond (eqb k 17) 1 0))))
+-- a field of a record stands within its bytes
+abbrev pub holds : Field → Type 0
+holds Number = Unit {0}
+holds (Part at w) = at + w ≤ 96
+holds Length = Unit {0}
 
 -- ── a word: NAME=NUMBER, or a number alone
 
 abbrev pub sign_in : List ℕ → ℕ
 sign_in word = index_of 61 word
 
--- its field, by the place among the names, and its number
-unfoldable pub field_of : List ℕ → ℕ
-field_of word = cond (eqb (sign_in word) (length word)) 0 (place_in (take (sign_in word) word) field_names)
+abbrev pub field_of : List ℕ → Option Field
+field_of word = cond (eqb (sign_in word) (length word)) (Some Number) (field_named (take (sign_in word) word))
 
-unfoldable pub value_of : List ℕ → Read
+abbrev pub value_of : List ℕ → Option ℕ
 value_of word = cond (eqb (sign_in word) (length word)) (number_in word) (number_in (drop (sign_in word + 1) word))
 
--- whether there is a number, and such a field with room for it
-unfoldable pub fits : ℕ → Read → Bool
-fits k Nothing = false
-fits k (Number x) = eqb (x / 256 ^ width_of k) 0 && not (eqb (width_of k) 0)
+-- the fields with a number in one's place: nothing where it has no room for the number
+abbrev pub with_number : Field → ℕ → Fields → Option Fields
+with_number Number x f = Some (record f { number = x })
+with_number (Part at w) x f = cond (eqb (x / 256 ^ w) 0) (Some (record f { bytes = splice f.bytes at (bytes_of w x) })) None
+with_number Length x f = cond (ltb 255 x) None (Some (record f { length = x }))
 
--- the fields with the number's low bytes in its place
-unfoldable pub with_number : ℕ → Read → List ℕ → List ℕ
-with_number k Nothing fields = fields
-with_number k (Number x) fields = splice fields (field_at k) (bytes_of (width_of k) x)
-
-abbrev pub is_field : List ℕ → Bool
-is_field word = fits (field_of word) (value_of word)
-
-abbrev pub with_field : List ℕ → List ℕ → List ℕ
-with_field word fields = with_number (field_of word) (value_of word) fields
+-- nothing where there is no such field, or no number
+abbrev pub with_field : List ℕ → Fields → Option Fields
+with_field word f = option_and_then (λ k. option_and_then (λ x. with_number k x f) (value_of word)) (field_of word)
 
 -- ── words
 
-unfoldable pub are_fields : List (List ℕ) → Bool
-are_fields [] = true
-are_fields (w ∷ ws) = is_field w && are_fields ws
-
-unfoldable pub with_fields : List (List ℕ) → List ℕ → List ℕ
-with_fields [] fields = fields
-with_fields (w ∷ ws) fields = with_fields ws (with_field w fields)
+-- nothing where one is no field
+abbrev pub with_fields : List (List ℕ) → Fields → Option Fields
+with_fields [] f = Some f
+with_fields (w ∷ ws) f = option_and_then (with_fields ws) (with_field w f)
 
 -- ── what the fields hold
 
-abbrev pub plain_number : List ℕ → ℕ
-plain_number fields = number_at fields 0 8
-
-abbrev pub record_in : List ℕ → List ℕ
-record_in fields = take 96 (drop 8 fields)
-
 -- the bytes of the record that are handed over as the case
-abbrev pub case_in : List ℕ → List ℕ
-case_in fields = take (min (number_at fields 104 1) 96) (record_in fields)
+abbrev pub case_in : Fields → List ℕ
+case_in f = take (min f.length 96) f.bytes

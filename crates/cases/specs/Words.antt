@@ -1,6 +1,8 @@
--- The parts of a text, as its words and lines are, and the place of a word among others.
-use Rattle.std.specs.Prelude.{Bool, true, false, ◌&&◌, cond, List, [], ◌∷◌, ℕ, suc, ◌==◌, eqb}
+-- The parts of a text, as its words and lines are, and what stands beside a name in a table.
+use Rattle.std.specs.Prelude.{cond, List, [], ◌∷◌, ℕ, ◌==◌, eqb, Option, None, Some}
 use Rattle.std.specs.List.{position_or_len}
+use Rattle.std.specs.Str.{bytes_eq}
+use denote.Ref.{Bor}
 
 -- the place of the first byte b; the length where there is none
 unfoldable pub index_of : ℕ → List ℕ → ℕ
@@ -22,14 +24,13 @@ words_of = parts_of 32
 abbrev pub lines_of : List ℕ → List (List ℕ)
 lines_of = parts_of 10
 
--- whether two words are the same
-unfoldable pub same_word : List ℕ → List ℕ → Bool
-same_word [] [] = true
-same_word [] (y ∷ ys) = false
-same_word (x ∷ xs) [] = false
-same_word (x ∷ xs) (y ∷ ys) = eqb x y && same_word xs ys
+-- ── a table, whose lines are a name and what stands beside it
 
--- the place of a word among words, counted from 0; their number where it is none of them
-unfoldable pub place_in : List ℕ → List (List ℕ) → ℕ
-place_in w [] = 0
-place_in w (v ∷ vs) = cond (same_word v w) 0 (suc (place_in w vs))
+-- a line as a program holds it
+abbrev pub line_read : {T : Type 0} → (Bor (List ℕ) × T) → (List ℕ × T)
+line_read l = (l.0.now, l.1)
+
+-- of the first line with the name
+abbrev pub named_in : {T : Type 0} → List ℕ → List (List ℕ × T) → Option T
+named_in w [] = None
+named_in w (l ∷ ls) = cond (bytes_eq l.0 w) (Some l.1) (named_in w ls)

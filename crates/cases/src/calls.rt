@@ -3,59 +3,116 @@ ghost use Rattle.std.specs.Prelude.{◌≡◌};
 ghost use Rattle.archive.specs.Offers.{offer};
 ghost use Rattle.archive.specs.Answers.{of_emptied, of_filing, used_in};
 ghost use Rattle.archive.specs.Archive.{emptying, empty_bytes, filing, file_bytes};
-ghost use Rattle.cases.specs.Calls.{torn};
+ghost use Rattle.cases.specs.Calls.{call_named, torn, used_after, bytes_after};
 
+use crate::fields::Fields;
+use crate::lists;
 use crate::output::Output;
+use crate::words::named;
 use archive::{Emptied, Filing, Highest};
 
-pub fn write(output: &mut Output, text: &[u8]) {
-    output.write(text);
+#[derive(Clone, Copy, PartialEq, Eq)]
+pub enum Call {
+    Empty,
+    Used,
+    Fill,
+    File,
+    Record,
+    Tear,
+    Show,
+    Worst,
+    Listing,
+    WorkOut,
+    Load,
+    Export,
 }
 
-pub fn write_number(output: &mut Output, before: &[u8], x: u64) {
-    write(output, before);
-    output.write_decimal(x);
+const CALLED: [(&[u8], Call); 12] = [
+    (b"empty", Call::Empty),
+    (b"used", Call::Used),
+    (b"fill", Call::Fill),
+    (b"file", Call::File),
+    (b"record", Call::Record),
+    (b"tear", Call::Tear),
+    (b"show", Call::Show),
+    (b"worst", Call::Worst),
+    (b"list", Call::Listing),
+    (b"work-out", Call::WorkOut),
+    (b"load", Call::Load),
+    (b"export", Call::Export),
+];
+
+pub fn call_named(name: &[u8]) -> Option<Call>
+    ensures { result ≡ call_named name.now }
+{
+    named(&CALLED, name)
 }
 
-fn write_refusal(output: &mut Output, number: u32) {
-    write_number(output, b": refused ", number as u64);
+// The used length after a call.
+pub fn used_after(
+    output: &mut Output,
+    call: Call,
+    fields: &Fields,
+    archive: &mut [u8],
+    used: u64,
+) -> u64
+    ensures { (result ≡ used_after call fields.now archive.old used) × (archive.new ≡ bytes_after call fields.now archive.old used) }
+{
+    let x = fields.number;
+    match call {
+        Call::Empty => return empty(output, archive),
+        Call::Used => return x,
+        Call::Fill => return lists::fill(archive, x),
+        Call::File => return file(output, archive, used, fields.case()),
+        Call::Record => return lists::record(archive, used, &fields.bytes),
+        Call::Tear => tear(archive, x),
+        Call::Show => show(output, archive, used, x),
+        Call::Worst => worst(output, archive, used, x),
+        Call::Listing => lists::list(output, archive, used, x),
+        Call::WorkOut => work_out(output, fields.case()),
+        Call::Load => load(output, x),
+        Call::Export => export(output, archive, used, x),
+    }
+    used
 }
 
-fn write_figures(output: &mut Output, before: &[u8], figures: [u64; 4]) {
-    write_number(output, before, figures[0]);
-    write_number(output, b" ", figures[1]);
-    write_number(output, b" ", figures[2]);
-    write_number(output, b" ", figures[3]);
+fn print_refusal(output: &mut Output, number: u32) {
+    output.print(format_args!(": refused {number}"));
 }
 
-pub fn work_out(output: &mut Output, case: &[u8]) {
+fn print_figures(output: &mut Output, figures: [u64; 4]) {
+    let [a, b, c, d] = figures;
+    output.print(format_args!("{a} {b} {c} {d}"));
+}
+
+fn work_out(output: &mut Output, case: &[u8]) {
     let worked = emission::work_out(case);
     if worked.refusal != 0 {
-        write_refusal(output, worked.refusal);
+        print_refusal(output, worked.refusal);
         return;
     }
-    let figures = worked.figures;
-    write_figures(output, b": ", figures);
+    output.print(": ");
+    print_figures(output, worked.figures);
 }
 
 // The used length afterwards.
-pub fn empty(output: &mut Output, archive: &mut [u8]) -> u64
+fn empty(output: &mut Output, archive: &mut [u8]) -> u64
     ensures { (result ≡ used_in (of_emptied (emptying archive.old)).places 0) × (archive.new ≡ empty_bytes archive.old) }
 {
     match archive::empty(archive) {
         Emptied::Used(length) => {
-            write_number(output, b": used ", length);
+            output.print(format_args!(": used {length}"));
             length
         }
         Emptied::Refused(n) => {
-            write_refusal(output, n);
+            print_refusal(output, n);
             0
         }
     }
 }
 
 // The used length afterwards.
-pub fn file(output: &mut Output, archive: &mut [u8], used: u64, case: &[u8]) -> u64
+fn file(output: &mut Output, archive: &mut [u8], used: u64, case: &[u8]) -> u64
     ensures { (result ≡ used_in (of_filing (filing archive.old used (offer case.now)) used).places used) × (archive.new ≡ file_bytes archive.old used (offer case.now)) }
 {
     match archive::file(archive, used, case) {
@@ -63,75 +120,73 @@ pub fn file(output: &mut Output, archive: &mut [u8], used: u64, case: &[u8]) -> 
             number,
             used: length,
         } => {
-            write_number(output, b": number ", number);
-            write_number(output, b", used ", length);
+            output.print(format_args!(": number {number}, used {length}"));
             length
         }
         Filing::Refused(n) => {
-            write_refusal(output, n);
+            print_refusal(output, n);
             used
         }
     }
 }
 
 // The figures of the record that is shown.
-pub fn show(output: &mut Output, archive: &[u8], used: u64, number: u64) {
+fn show(output: &mut Output, archive: &[u8], used: u64, number: u64) {
     let refusal = archive::show_refusal(archive, used, number);
     let part = archive::show(archive, used, number);
+    let n = part.len();
     if refusal != 0 {
-        write_refusal(output, refusal);
-        write_number(output, b", bytes ", part.len() as u64);
+        print_refusal(output, refusal);
+        output.print(format_args!(", bytes {n}"));
         return;
     }
-    write_number(output, b": bytes ", part.len() as u64);
+    output.print(format_args!(": bytes {n}"));
     let read = archive::figures_of(part);
     if !read.found {
-        write(output, b", no record");
+        output.print(", no record");
         return;
     }
-    let figures = read.figures;
-    write_figures(output, b", figures ", figures);
+    output.print(", figures ");
+    print_figures(output, read.figures);
 }
 
-pub fn worst(output: &mut Output, archive: &[u8], used: u64, compartment: u64) {
+fn worst(output: &mut Output, archive: &[u8], used: u64, compartment: u64) {
     match archive::worst(archive, used, compartment) {
-        Highest::Number(k) => write_number(output, b": number ", k),
-        Highest::Refused(n) => write_refusal(output, n),
+        Highest::Number(k) => output.print(format_args!(": number {k}")),
+        Highest::Refused(n) => print_refusal(output, n),
     }
 }
 
 // Bytes as they are, by eights.
-fn write_bytes(output: &mut Output, bytes: &[u8]) {
-    for (i, b) in bytes.iter().enumerate() {
-        if i % 8 == 0 {
-            write(output, b" ");
+fn print_bytes(output: &mut Output, bytes: &[u8]) {
+    for eight in bytes.chunks(8) {
+        output.print(" ");
+        for &b in eight {
+            output.print(format_args!("{b:02x}"));
         }
-        output.write_hexadecimal(*b);
     }
 }
 
-pub fn load(output: &mut Output, figure: u64) {
-    let load = load::load(figure);
-    write(output, b":");
-    write_bytes(output, &load);
+fn load(output: &mut Output, figure: u64) {
+    output.print(":");
+    print_bytes(output, &load::load(figure));
 }
 
 // The four loads, beside a refusal too.
-pub fn export(output: &mut Output, archive: &[u8], used: u64, number: u64) {
+fn export(output: &mut Output, archive: &[u8], used: u64, number: u64) {
     let exported = export::export(archive, used, number);
     if exported.refusal != 0 {
-        write_refusal(output, exported.refusal);
+        print_refusal(output, exported.refusal);
     }
-    let loads = exported.loads;
-    write(output, b": loads");
-    write_bytes(output, &loads);
+    output.print(": loads");
+    print_bytes(output, &exported.loads);
 }
 
 // Another byte at a place.
-pub fn tear(archive: &mut [u8], at: u64)
+fn tear(archive: &mut [u8], at: u64)
     ensures { archive.new ≡ torn at archive.old }
 {
     if at < archive.len() as u64 {
-        archive[at as usize] = 97;
+        archive[at as usize] = b'a';
     }
 }

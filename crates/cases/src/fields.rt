@@ -1,105 +1,124 @@
-// The fields of a call from the words behind its name, as the command takes them. They stand in 105 bytes: the number of a call that has one, then
-// a record, then how many bytes of the record are the case.
+// The fields of a call from the words behind its name, as the command takes them.
 ghost use Rattle.std.specs.Prelude.{◌+◌, ◌/◌, ◌^◌, ◌≤◌, ◌≡◌, length};
 ghost use Rattle.octets.specs.Bytes.{bytes_of, splice};
 ghost use Rattle.cases.specs.Words.{words_of};
-ghost use Rattle.cases.specs.Numbers.{number_in};
-ghost use Rattle.cases.specs.Fields.{field_at, width_of, fits, with_number, is_field, with_field, are_fields, with_fields};
+ghost use Rattle.cases.specs.Fields.{blank, case_in, holds, with_number, with_field, with_fields};
 
-use crate::numbers::{Read, number};
-use crate::words::{first, index_of};
+use crate::numbers::number;
+use crate::words::{first, named, words};
 
-// Where a field stands, and its width; 0 where there is no such field.
+// The number of a call that has one; a record; and how many bytes of the record are the case.
 #[derive(Clone, Copy)]
-struct Place {
-    at: usize,
-    width: usize,
+pub struct Fields {
+    pub number: u64,
+    pub bytes: [u8; 96],
+    pub length: u8,
 }
 
-// Of a place among the names.
-fn place_of(i: usize) -> Place
-    ensures { (result.at ≡ field_at i) × (result.width ≡ width_of i) × (result.at + result.width ≤ 105) }
-{
-    if i == 0 {
-        return Place { at: 0, width: 8 };
-    }
-    if i <= 4 {
-        return Place {
-            at: 7 + i,
-            width: 1,
-        };
-    }
-    if i == 5 {
-        return Place { at: 12, width: 4 };
-    }
-    if i <= 16 {
-        return Place {
-            at: 8 * (i - 4),
-            width: 8,
-        };
-    }
-    if i == 17 {
-        return Place { at: 104, width: 1 };
-    }
-    Place { at: 104, width: 0 }
+#[derive(Clone, Copy)]
+enum Field {
+    Number,
+    // Of the record: where it stands, and its width.
+    Part(usize, usize),
+    Length,
 }
+
+// The number has no name.
+const PLACES: [(&[u8], Field); 18] = [
+    (b"", Field::Number),
+    (b"kind", Field::Part(0, 1)),
+    (b"row", Field::Part(1, 1)),
+    (b"route", Field::Part(2, 1)),
+    (b"user", Field::Part(3, 1)),
+    (b"T", Field::Part(4, 4)),
+    (b"dossier", Field::Part(8, 8)),
+    (b"a", Field::Part(16, 8)),
+    (b"b", Field::Part(24, 8)),
+    (b"c", Field::Part(32, 8)),
+    (b"d", Field::Part(40, 8)),
+    (b"e", Field::Part(48, 8)),
+    (b"f", Field::Part(56, 8)),
+    (b"stp", Field::Part(64, 8)),
+    (b"surface", Field::Part(72, 8)),
+    (b"air", Field::Part(80, 8)),
+    (b"soil", Field::Part(88, 8)),
+    (b"length", Field::Length),
+];
 
 // Writes the last bytes of x, the lowest first, and gives what is left of it.
-fn put(fields: &mut [u8], at: usize, width: usize, x: u64) -> u64
-    requires { at + width ≤ length fields.old }
-    ensures { (result ≡ x / 256 ^ width) × (fields.new ≡ splice fields.old at (bytes_of width x)) }
+fn put(bytes: &mut [u8], at: usize, width: usize, x: u64) -> u64
+    requires { at + width ≤ length bytes.old }
+    ensures { (result ≡ x / 256 ^ width) × (bytes.new ≡ splice bytes.old at (bytes_of width x)) }
 {
     let mut rest = x;
-    let mut i: usize = 0;
-    while i < width {
-        fields[at + i] = (rest % 256) as u8;
+    for i in 0..width {
+        bytes[at + i] = (rest % 256) as u8;
         rest /= 256;
-        i += 1;
     }
     rest
 }
 
-// Whether a text is a number that fits the field of a place among the names.
-fn put_number(fields: &mut [u8], i: usize, text: &[u8]) -> bool
-    requires { length fields.old ≡ 105 }
-    ensures { (result ≡ fits i (number_in text.now)) × (fields.new ≡ with_number i (number_in text.now) fields.old) }
-{
-    let Read::Number(x) = number(text) else {
-        return false;
-    };
-    let place = place_of(i);
-    let width = place.width;
-    (put(fields, place.at, width, x) == 0) & (width != 0)
+impl Fields {
+    fn blank() -> Fields
+        ensures { result ≡ blank }
+    {
+        let mut bytes = [0; 96];
+        bytes[2] = 1;
+        Fields {
+            number: 0,
+            bytes,
+            length: 64,
+        }
+    }
+
+    pub fn case(&self) -> &[u8]
+        ensures { result.now ≡ case_in self.now }
+    {
+        &self.bytes[..(self.length as usize).min(96)]
+    }
+
+    // Nothing where the number does not fit the field.
+    fn with_number(mut self, field: Field, x: u64) -> Option<Fields>
+        requires { holds field }
+        ensures { result ≡ with_number field x self }
+    {
+        match field {
+            Field::Number => self.number = x,
+            Field::Part(at, width) => {
+                if put(&mut self.bytes, at, width, x) != 0 {
+                    return None;
+                }
+            }
+            Field::Length => {
+                if 255 < x {
+                    return None;
+                }
+                self.length = x as u8;
+            }
+        }
+        Some(self)
+    }
+
+    // Nothing where a word is neither a field and a number that fits it, nor a number alone.
+    fn with_field(self, word: &[u8]) -> Option<Fields>
+        ensures { result ≡ with_field word.now self }
+    {
+        let sign = first(word, b'=');
+        if sign == word.len() {
+            return self.with_number(Field::Number, number(word)?);
+        }
+        let field = named(&PLACES, &word[..sign])?;
+        self.with_number(field, number(&word[sign + 1..])?)
+    }
 }
 
-// Whether a word is a field and a number that fits it, or a number alone.
-fn set_field(fields: &mut [u8], word: &[u8]) -> bool
-    requires { length fields.old ≡ 105 }
-    ensures { (result ≡ is_field word.now) × (fields.new ≡ with_field word.now fields.old) }
+// The fields that a text names; nothing where one of its words is no such field.
+pub fn fields_of(text: &[u8]) -> Option<Fields>
+    ensures { result ≡ with_fields (words_of text.now) blank }
 {
-    let sign = first(word, b'=');
-    if sign == word.len() {
-        return put_number(fields, 0, word);
+    let mut fields = Fields::blank();
+    for word in words(text) {
+        fields = fields.with_field(word)?;
     }
-    let i = index_of(
-        &word[..sign],
-        b" kind row route user T dossier a b c d e f stp surface air soil length",
-    );
-    put_number(fields, i, &word[sign + 1..])
-}
-
-// Sets the fields that a text names, and gives whether all its words are such.
-pub fn set_fields(fields: &mut [u8], text: &[u8]) -> bool
-    requires { length fields.old ≡ 105 }
-    ensures { (result ≡ are_fields (words_of text.now)) × (fields.new ≡ with_fields (words_of text.now) fields.old) }
-{
-    let mut all = true;
-    let mut at = 0;
-    while at < text.len() {
-        let rest = &text[at..];
-        let end = first(rest, b' ');
-        all = all & set_field(fields, &rest[..end]);
-        at += end + 1;
-    }
-    all
+    Some(fields)
 }

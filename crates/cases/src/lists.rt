@@ -5,8 +5,6 @@ ghost use Rattle.records.specs.Buffer.{written};
 ghost use Rattle.listing.specs.Listing.{listed_bytes};
 ghost use Rattle.cases.specs.Calls.{recorded_length, recorded_bytes, grown, filled, filled_length, filled_bytes};
 
-use crate::calls::{write, write_number};
-use crate::numbers::least;
 use crate::output::Output;
 use listing::{Listed, MOST_OUTPUT};
 use octets::put_u64;
@@ -16,27 +14,28 @@ use records::{figures_at, put_line};
 fn list_by(output: &mut Output, archive: &[u8], out: &mut [u8])
     ensures { out.new ≡ listed_bytes archive.now out.old }
 {
-    let mut written = out.len() as u64;
-    match listing::print(archive, out) {
-        Listed::Written(n) => written = n,
-        Listed::Needs(n) => write_number(output, b": needs ", n),
-    }
-    write(output, b"\n");
-    let end = least(written, out.len());
-    write(output, &out[0..end]);
+    let written = match listing::print(archive, out) {
+        Listed::Written(n) => n,
+        Listed::Needs(n) => {
+            output.print(format_args!(": needs {n}"));
+            out.len() as u64
+        }
+    };
+    output.print("\n");
+    let end = written.min(out.len() as u64) as usize;
+    output.write(&out[..end]);
 }
 
 // With a buffer of some size.
 pub fn list(output: &mut Output, archive: &[u8], used: u64, size: u64) {
     let mut out = [b'.'; MOST_OUTPUT];
-    let end = least(used, archive.len());
-    let n = least(size, MOST_OUTPUT);
-    list_by(output, &archive[0..end], &mut out[0..n]);
+    let end = used.min(archive.len() as u64) as usize;
+    let n = size.min(MOST_OUTPUT as u64) as usize;
+    list_by(output, &archive[..end], &mut out[..n]);
 }
 
 // Puts a record behind the records, whatever its bytes are, and gives the used length after it.
-pub fn record(archive: &mut [u8], used: u64, bytes: &[u8]) -> u64
-    requires { length bytes.now ≡ 96 }
+pub fn record(archive: &mut [u8], used: u64, bytes: &[u8; 96]) -> u64
     ensures { (result ≡ recorded_length (length archive.old) used) × (archive.new ≡ recorded_bytes archive.old used bytes.now) }
 {
     if 682 < used / 96 {
@@ -46,7 +45,7 @@ pub fn record(archive: &mut [u8], used: u64, bytes: &[u8]) -> u64
     if archive.len() < 96 * n + 112 {
         return used;
     }
-    put_line(archive, n, &bytes[0..64], figures_at(bytes));
+    put_line(archive, n, &bytes[..64], figures_at(bytes));
     used + 96
 }
 
@@ -68,10 +67,8 @@ fn fill_all(archive: &mut [u8], n: usize)
     requires { (used_length record_size n ≤ length archive.old) × (n ≤ 683) }
     ensures { archive.new ≡ filled n archive.old }
 {
-    let mut k: usize = 0;
-    while k < n {
+    for k in 0..n {
         fill_one(archive, k);
-        k += 1;
     }
 }
 

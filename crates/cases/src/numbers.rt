@@ -1,60 +1,50 @@
 // Numbers as the command takes them: decimal digits, or hexadecimal ones behind 0x.
-ghost use Rattle.std.specs.Prelude.{◌≡◌, ◌≤◌, min};
-ghost use Rattle.cases.specs.Numbers.{digit_of, value_in, number_in};
+ghost use Rattle.std.specs.Prelude.{◌≡◌, ◌≤◌};
+ghost use Rattle.cases.specs.Numbers.{digit_of, further, value_in, number_in};
 
-#[derive(Clone, Copy)]
-pub enum Read {
-    Number(u64),
-    Nothing,
-}
-
-fn digit(b: u8) -> u64
+// Hexadecimal digits are small letters: of `to_digit` capitals would be some too.
+fn digit(b: u8) -> Option<u64>
     ensures { result ≡ digit_of b }
 {
-    if (48 <= b) & (b <= 57) {
-        return (b - 48) as u64;
+    match b {
+        b'0'..=b'9' => Some((b - b'0') as u64),
+        b'a'..=b'f' => Some((b - b'a' + 10) as u64),
+        _ => None,
     }
-    if (97 <= b) & (b <= 102) {
-        return (b - 87) as u64;
-    }
-    16
 }
 
-// Nothing where there is no digit, another byte, or no room for a digit more.
-fn value_of(digits: &[u8], base: u64) -> Read
+// A value with a digit more; nothing where the byte is no digit of the base, or there is no room.
+fn further(base: u64, x: u64, b: u8) -> Option<u64>
+    requires { base ≤ 16 }
+    ensures { result ≡ further base x b }
+{
+    let d = digit(b)?;
+    if (base <= d) | (0xfff_ffff_ffff_ffff < x) {
+        return None;
+    }
+    Some(base * x + d)
+}
+
+// Nothing where there is no digit.
+fn value_of(digits: &[u8], base: u64) -> Option<u64>
     requires { base ≤ 16 }
     ensures { result ≡ value_in base digits.now }
 {
-    if digits.len() == 0 {
-        return Read::Nothing;
+    if digits.is_empty() {
+        return None;
     }
-    let mut x: u64 = 0;
-    let mut i = 0;
-    while i < digits.len() {
-        let d = digit(digits[i]);
-        if (base <= d) | (0xfff_ffff_ffff_ffff < x) {
-            return Read::Nothing;
-        }
-        x = base * x + d;
-        i += 1;
+    let mut x = 0;
+    for b in digits {
+        x = further(base, x, *b)?;
     }
-    Read::Number(x)
+    Some(x)
 }
 
-pub fn number(text: &[u8]) -> Read
+pub fn number(text: &[u8]) -> Option<u64>
     ensures { result ≡ number_in text.now }
 {
-    if text.len() <= 2 {
-        return value_of(text, 10);
+    match text.strip_prefix(b"0x") {
+        Some(digits) => value_of(digits, 16),
+        None => value_of(text, 10),
     }
-    if (text[0] == b'0') & (text[1] == b'x') {
-        return value_of(&text[2..], 16);
-    }
-    value_of(text, 10)
-}
-
-pub fn least(x: u64, most: usize) -> usize
-    ensures { result ≡ min x most }
-{
-    if x < most as u64 { x as usize } else { most }
 }

@@ -1,6 +1,7 @@
 // Standard output, until a write fails: that failure is kept, and nothing is written behind it.
 ghost use Rattle.std.specs.Prelude.{◌≡◌, Ok, OnErr};
 
+use std::fmt::Display;
 use std::io;
 use std::io::{Stdout, Write};
 
@@ -17,28 +18,20 @@ impl Output {
         Output { to, so_far: Ok(()) }
     }
 
-    pub fn write(&mut self, text: &[u8])
+    // Bytes as they are.
+    pub fn write(&mut self, bytes: &[u8])
         ensures { OnErr self.old.so_far (self.new ≡ self.old) }
     {
         if self.so_far.is_ok() {
-            self.so_far = self.to.write_all(text);
+            self.so_far = self.to.write_all(bytes);
         }
     }
 
-    pub fn write_decimal(&mut self, x: u64)
+    pub fn print<D: Display + Drop>(&mut self, text: D)
         ensures { OnErr self.old.so_far (self.new ≡ self.old) }
     {
         if self.so_far.is_ok() {
-            self.so_far = write!(self.to, "{x}");
-        }
-    }
-
-    // Two digits.
-    pub fn write_hexadecimal(&mut self, x: u8)
-        ensures { OnErr self.old.so_far (self.new ≡ self.old) }
-    {
-        if self.so_far.is_ok() {
-            self.so_far = write!(self.to, "{x:02x}");
+            self.so_far = write!(self.to, "{text}");
         }
     }
 
