@@ -1,91 +1,85 @@
-// Little-endian numbers in a slice of bytes: read, and written in their place. By halves, so that the compiler makes
-// one load or one store of each. Bytes as they are, copied to their place by numbers of 8.
-#![tactic(auto)]
+// Little-endian numbers in a slice of bytes: read, and written in their place; the compiler makes one load or one store of
+// each. Bytes as they are, copied to their place.
+#![tactic(auto, using(crate::proofs::LowFirst::widths))]
 
-ghost use Rattle.std.specs.Prelude.{◌≡◌, ◌+◌, ◌≤◌, ◌<◌, length, take};
-ghost use Rattle.octets.specs.Bytes.{bytes_of, number_at, splice};
+ghost use Rattle.std.specs.Prelude.{◌≡◌, ◌+◌, ◌≤◌, ℕ, length};
+ghost use Rattle.octets.specs.Bytes.{bytes_of, number_of, number_at, splice};
 
-pub fn u8_at(b: &[u8], at: usize) -> u8
-    requires { at + 1 ≤ length b.now }
-    ensures { result ≡ number_at b.now at 1 }
-{
-    b[at]
-}
+mod widths;
 
-pub fn u16_at(b: &[u8], at: usize) -> u16
-    requires { at + 2 ≤ length b.now }
-    ensures { result ≡ number_at b.now at 2 }
-{
-    u8_at(b, at) as u16 + 256 * (u8_at(b, at + 1) as u16)
-}
+// A number of W bytes.
+pub trait Octets<const W: usize>: Copy {
+    // The number that a value stands for.
+    ghost number: { Self → ℕ };
 
-pub fn u32_at(b: &[u8], at: usize) -> u32
-    requires { at + 4 ≤ length b.now }
-    ensures { result ≡ number_at b.now at 4 }
-{
-    u16_at(b, at) as u32 + 65536 * (u16_at(b, at + 2) as u32)
-}
+    fn from_octets(octets: &[u8; W]) -> Self
+        ensures { number result ≡ number_of octets.now };
 
-pub fn u64_at(b: &[u8], at: usize) -> u64
-    requires { at + 8 ≤ length b.now }
-    ensures { result ≡ number_at b.now at 8 }
-{
-    u32_at(b, at) as u64 + 4294967296 * (u32_at(b, at + 4) as u64)
-}
+    fn to_octets(self) -> [u8; W]
+        ensures { result ≡ bytes_of W (number self) };
 
-pub fn put_u8(b: &mut [u8], at: usize, x: u8)
-    requires { at + 1 ≤ length b.old }
-    ensures { b.new ≡ splice b.old at (bytes_of 1 x) }
-{
-    b[at] = x;
-}
-
-pub fn put_u16(b: &mut [u8], at: usize, x: u16)
-    requires { at + 2 ≤ length b.old }
-    ensures { b.new ≡ splice b.old at (bytes_of 2 x) }
-{
-    put_u8(b, at, (x % 256) as u8);
-    put_u8(b, at + 1, (x / 256) as u8);
-}
-
-pub fn put_u32(b: &mut [u8], at: usize, x: u32)
-    requires { at + 4 ≤ length b.old }
-    ensures { b.new ≡ splice b.old at (bytes_of 4 x) }
-{
-    put_u16(b, at, (x % 65536) as u16);
-    put_u16(b, at + 2, (x / 65536) as u16);
-}
-
-pub fn put_u64(b: &mut [u8], at: usize, x: u64)
-    requires { at + 8 ≤ length b.old }
-    ensures { b.new ≡ splice b.old at (bytes_of 8 x) }
-{
-    put_u32(b, at, (x % 4294967296) as u32);
-    put_u32(b, at + 4, (x / 4294967296) as u32);
-}
-
-// Writes the bytes of s from `at` on, by numbers of 8 bytes; returns how many it wrote, all but 7 at the most.
-fn put_words(b: &mut [u8], at: usize, s: &[u8]) -> usize
-    requires { at + length s.now ≤ length b.old }
-    ensures { (b.new ≡ splice b.old at (take result s.now)) × (result ≤ length s.now) × (length s.now < result + 8) }
-{
-    let mut i = 0;
-    while 8 <= s.len() - i {
-        put_u64(b, at + i, u64_at(s, i));
-        i += 8;
+    // Reads the number in the W bytes from `at` on.
+    final fn at(b: &[u8], at: usize) -> Self
+        requires { at + W ≤ length b.now }
+        ensures { number result ≡ number_at b.now at W }
+    {
+        Self::from_octets(b[at..at + W].as_array().unwrap())
     }
-    i
+
+    // Writes the number to the W bytes from `at` on.
+    final fn put(self, b: &mut [u8], at: usize)
+        requires { at + W ≤ length b.old }
+        ensures { b.new ≡ splice b.old at (bytes_of W (number self)) }
+    {
+        b[at..at + W].copy_from_slice(&self.to_octets());
+    }
 }
 
-// Writes the bytes of s from `at` on, one by one.
-fn put_singly(b: &mut [u8], at: usize, s: &[u8])
-    requires { at + length s.now ≤ length b.old }
-    ensures { b.new ≡ splice b.old at s.now }
-{
-    let mut i = 0;
-    while i < s.len() {
-        put_u8(b, at + i, u8_at(s, i));
-        i += 1;
+impl Octets<1> for u8 {
+    ghost number = { λ x. x };
+
+    fn from_octets(octets: &[u8; 1]) -> u8 {
+        u8::from_le_bytes(*octets)
+    }
+
+    fn to_octets(self) -> [u8; 1] {
+        u8::to_le_bytes(self)
+    }
+}
+
+impl Octets<2> for u16 {
+    ghost number = { λ x. x };
+
+    fn from_octets(octets: &[u8; 2]) -> u16 {
+        u16::from_le_bytes(*octets)
+    }
+
+    fn to_octets(self) -> [u8; 2] {
+        u16::to_le_bytes(self)
+    }
+}
+
+impl Octets<4> for u32 {
+    ghost number = { λ x. x };
+
+    fn from_octets(octets: &[u8; 4]) -> u32 {
+        u32::from_le_bytes(*octets)
+    }
+
+    fn to_octets(self) -> [u8; 4] {
+        u32::to_le_bytes(self)
+    }
+}
+
+impl Octets<8> for u64 {
+    ghost number = { λ x. x };
+
+    fn from_octets(octets: &[u8; 8]) -> u64 {
+        u64::from_le_bytes(*octets)
+    }
+
+    fn to_octets(self) -> [u8; 8] {
+        u64::to_le_bytes(self)
     }
 }
 
@@ -94,6 +88,5 @@ pub fn put_bytes(b: &mut [u8], at: usize, s: &[u8])
     requires { at + length s.now ≤ length b.old }
     ensures { b.new ≡ splice b.old at s.now }
 {
-    let n = put_words(b, at, s);
-    put_singly(b, at + n, &s[n..]);
+    b[at..at + s.len()].copy_from_slice(s);
 }

@@ -1,7 +1,7 @@
--- What is copied by words, and the rest behind it.
-use Rattle.octets.proofs.Splice.{copied_rest}
+-- The part of the slice from `at` on is written whole.
+use mathlib.Core.Path.{refl}
+use Rattle.octets.proofs.Splice.{part_written}
 use Rattle.octets.proofs.put_bytes.Goals as goal
 
 pub returns : goal.returns
-returns c =
-    copied_rest _ _ _ _ c.requires c.put_words-n.ensures.1 c.put_words-n.ensures.0 c.put_singly.ensures
+returns c = part_written _ _ _ c.copy_from_slice.ensures.after refl
