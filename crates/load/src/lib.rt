@@ -6,7 +6,7 @@ ghost use Rattle.std.specs.Prelude.{◌≡◌};
 ghost use Rattle.octets.specs.Bytes.{number_of};
 ghost use Rattle.load.specs.Load.{LoadWithin, load_pattern, load_bytes};
 
-use octets::put_u64;
+use octets::Octets;
 
 // The pattern of a figure's load. A carry out of its 53 digits raises the exponent, since the two are added.
 pub fn load_pattern(figure: u64) -> u64
@@ -25,7 +25,5 @@ pub fn load(figure: u64) -> [u8; 8]
     ensures bytes { result ≡ load_bytes figure }
     ensures within { LoadWithin figure (number_of result) }
 {
-    let mut bytes = [0u8; 8];
-    put_u64(&mut bytes, 0, load_pattern(figure));
-    bytes
+    load_pattern(figure).to_octets()
 }
