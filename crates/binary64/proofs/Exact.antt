@@ -1,7 +1,7 @@
 -- Laws of a pattern's exact value.
 -- `unsigned_finite_exactly`: which patterns have one, in plain numbers. `exact_value`: `whole` over 2 ^ 1074 is the value that the library of IEEE 754 gives the pattern.
 -- `not_nan_bits`, `not_nan`: none is a NaN. `pattern_back`: the f64 of a pattern has that pattern. `whole_zero`.
--- `whole_parts`, `significand_small`, `shift_small`: significand and shift. `zero_parts`, `subnormal_parts`, `normal_parts`: what these are, by cases; `parts_known`: what follows.
+-- `whole_parts`, `shift_small`: significand and shift.
 -- The order of values is in `Order`.
 use mathlib.Core.Path.{◌≡◌, refl, sym, ap, ◌∙◌}
 use Prim.Native.Nat.{ℕ, zero, suc, ◌+◌, ◌-◌, ◌*◌, ◌/◌, ◌%◌, ◌^◌, ◌≤◌, ◌<◌}
@@ -78,35 +78,9 @@ whole_parts b h = go (eqb b 0) refl
         let f : b / 2 ^ 52 ≡ exponent_of b = omega arith in
         ap (λ (x : ℕ). whole_at x (fraction_of b)) f ∙ at_parts (exponent_of b) (fraction_of b)
 
-pub significand_small : (b : ℕ) → significand_of b < 2 ^ 53
-significand_small b = go (eqb (exponent_of b) 0)
-  where
-    go : (z : Bool) → cond z (fraction_of b) (2 ^ 52 + fraction_of b) < 2 ^ 53
-    go true = omega arith
-    go false = omega arith
-
 pub shift_small : (b : ℕ) → shift_of b ≤ 2046
 shift_small b = go (eqb b 0)
   where
     go : (z : Bool) → cond z 1074 (exponent_of b - 1) ≤ 2046
     go true = omega arith
     go false = omega arith
-
-pub zero_parts : (b : ℕ) → b ≡ 0 → (0 ≡ significand_of b) × (1074 ≡ shift_of b)
-zero_parts b e = rw e (refl, refl)
-
-pub subnormal_parts : (b x t : ℕ) → (b ≡ 0 → ⊥) → x ≡ exponent_of b → x ≡ 0 → t ≡ fraction_of b → (t ≡ significand_of b) × (0 ≡ shift_of b)
-subnormal_parts b x t h ex e et =
-    let z : exponent_of b ≡ 0 = omega arith in
-    let d : 0 ≡ exponent_of b - 1 = omega arith in
-    (rw (eq-eqb (exponent_of b) 0 z) et, rw (ne_eqb b 0 h) d)
-
-pub normal_parts : (b x t : ℕ) → (b ≡ 0 → ⊥) → x ≡ exponent_of b → (x ≡ 0 → ⊥) → t ≡ fraction_of b → (2 ^ 52 + t ≡ significand_of b) × (x - 1 ≡ shift_of b)
-normal_parts b x t h ex e et =
-    let z : exponent_of b ≡ 0 → ⊥ = (λ (q : exponent_of b ≡ 0). e (omega arith)) in
-    (rw (ne_eqb (exponent_of b) 0 z) (ap (λ (n : ℕ). 2 ^ 52 + n) et), rw (ne_eqb b 0 h) (ap (λ (n : ℕ). n - 1) ex))
-
-pub parts_known : (b m s : ℕ) → (m ≡ significand_of b) × (s ≡ shift_of b)
-    → ((m ≡ significand_of b) × (s ≡ shift_of b)) × ((b < 2 ^ 63 → whole b ≡ m * 2 ^ s) × ((m < 2 ^ 53) × (s ≤ 2046)))
-parts_known b m s e =
-    (e, (λ (h : b < 2 ^ 63). rw (e.0, e.1) (whole_parts b h), (rw e.0 (significand_small b), rw e.1 (shift_small b))))

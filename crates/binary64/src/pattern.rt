@@ -24,6 +24,7 @@ pub fn fraction_of(bits: u64) -> u64
 }
 
 // Whether the pattern has no sign bit and an exponent field below 2047.
+#[tactic(auto, unfolding(crate::specs::Pattern::is_unsigned_finite))]
 pub fn is_unsigned_finite(bits: u64) -> bool
     ensures { result ≡ is_unsigned_finite bits }
 {
@@ -37,6 +38,7 @@ pub struct Parts {
     pub shift: usize,
 }
 
+#[tactic(auto, using(crate::proofs::Exact::whole_parts))]
 pub fn parts_of(bits: u64) -> Parts
     ensures parts { (result.significand ≡ significand_of bits) × (result.shift ≡ shift_of bits) }
     ensures exact { bits < 2 ^ 63 → whole bits ≡ result.significand * 2 ^ result.shift }
