@@ -1,4 +1,5 @@
--- A figure that is not 0, shifted until its first digit is the 64th: `Shifted`, `shifted_facts`; `few_digits` (a figure below 2 ^ 53).
+-- A figure that is not 0, shifted until its first digit is the 64th: `Shifted`, `shifted_facts`; `shifts`, the same for the search.
+-- `few_digits`: of a figure below 2 ^ 53.
 -- Its significand: `Rounded`, `rounded_facts`, `significand_code` (as the code works it out).
 use mathlib.Core.Path.{◌≡◌, sym, ap, ◌∙◌, subst}
 use Prim.Native.Nat.{ℕ, suc, ◌+◌, ◌-◌, ◌*◌, ◌/◌, ◌%◌, ◌^◌, ◌≤◌, ◌<◌}
@@ -41,6 +42,20 @@ shifted_facts n p h =
       fits = below;
       none_lost = mod-eq_of_lt below;
     }
+
+pub few_zeros : (n : ℕ) → 0 < n → n < 2 ^ 64 → count_leading_zeros 64 n < 64
+few_zeros n p h = (shifted_facts n p h).few
+
+pub top_set : (n : ℕ) → 0 < n → n < 2 ^ 64 → 2 ^ 63 ≤ n * 2 ^ count_leading_zeros 64 n
+top_set n p h = (shifted_facts n p h).top
+
+pub none_over : (n : ℕ) → 0 < n → n < 2 ^ 64 → n * 2 ^ count_leading_zeros 64 n < 2 ^ 64
+none_over n p h = (shifted_facts n p h).fits
+
+pub no_digit_lost : (n : ℕ) → 0 < n → n < 2 ^ 64 → n * 2 ^ count_leading_zeros 64 n % 2 ^ 64 ≡ n * 2 ^ count_leading_zeros 64 n
+no_digit_lost n p h = (shifted_facts n p h).none_lost
+
+pub ruleset shifts = (few_zeros, top_set, none_over, no_digit_lost)
 
 pub few_digits : (n : ℕ) → 0 < n → n < 2 ^ 53 → 11 ≤ zeros_before n
 few_digits n p h =

@@ -9,13 +9,14 @@ ghost use Rattle.load.specs.Load.{LoadWithin, load_pattern, load_bytes};
 use octets::Octets;
 
 // The pattern of a figure's load. A carry out of its 53 digits raises the exponent, since the two are added.
+#[tactic(auto, using(crate::proofs::Shifted::shifts))]
 pub fn load_pattern(figure: u64) -> u64
     ensures { result ≡ load_pattern figure }
 {
     if figure == 0 {
         return 0;
     }
-    let zeros = u64::leading_zeros(figure);
+    let zeros = figure.leading_zeros();
     let shifted = figure << zeros;
     (1085 - zeros as u64) * 0x10_0000_0000_0000 + ((shifted - 1) >> 11) + 1
 }
