@@ -38,11 +38,15 @@ pub trait Octets<const W: usize>: Copy {
 impl Octets<1> for u8 {
     ghost number = { λ x. x };
 
-    fn from_octets(octets: &[u8; 1]) -> u8 {
+    fn from_octets(octets: &[u8; 1]) -> u8
+        ensures { result ≡ number_of octets.now }
+    {
         u8::from_le_bytes(*octets)
     }
 
-    fn to_octets(self) -> [u8; 1] {
+    fn to_octets(self) -> [u8; 1]
+        ensures { result ≡ bytes_of 1 self }
+    {
         u8::to_le_bytes(self)
     }
 }
@@ -50,11 +54,15 @@ impl Octets<1> for u8 {
 impl Octets<2> for u16 {
     ghost number = { λ x. x };
 
-    fn from_octets(octets: &[u8; 2]) -> u16 {
+    fn from_octets(octets: &[u8; 2]) -> u16
+        ensures { result ≡ number_of octets.now }
+    {
         u16::from_le_bytes(*octets)
     }
 
-    fn to_octets(self) -> [u8; 2] {
+    fn to_octets(self) -> [u8; 2]
+        ensures { result ≡ bytes_of 2 self }
+    {
         u16::to_le_bytes(self)
     }
 }
@@ -62,11 +70,15 @@ impl Octets<2> for u16 {
 impl Octets<4> for u32 {
     ghost number = { λ x. x };
 
-    fn from_octets(octets: &[u8; 4]) -> u32 {
+    fn from_octets(octets: &[u8; 4]) -> u32
+        ensures { result ≡ number_of octets.now }
+    {
         u32::from_le_bytes(*octets)
     }
 
-    fn to_octets(self) -> [u8; 4] {
+    fn to_octets(self) -> [u8; 4]
+        ensures { result ≡ bytes_of 4 self }
+    {
         u32::to_le_bytes(self)
     }
 }
@@ -74,11 +86,15 @@ impl Octets<4> for u32 {
 impl Octets<8> for u64 {
     ghost number = { λ x. x };
 
-    fn from_octets(octets: &[u8; 8]) -> u64 {
+    fn from_octets(octets: &[u8; 8]) -> u64
+        ensures { result ≡ number_of octets.now }
+    {
         u64::from_le_bytes(*octets)
     }
 
-    fn to_octets(self) -> [u8; 8] {
+    fn to_octets(self) -> [u8; 8]
+        ensures { result ≡ bytes_of 8 self }
+    {
         u64::to_le_bytes(self)
     }
 }
