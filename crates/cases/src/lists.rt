@@ -7,7 +7,7 @@ ghost use Rattle.cases.specs.Calls.{recorded_length, recorded_bytes, grown, fill
 
 use crate::output::Output;
 use listing::{Listed, MOST_OUTPUT};
-use octets::put_u64;
+use octets::Octets;
 use records::{figures_at, put_line};
 
 // Prints the listing by way of a buffer; all of the buffer, which is as it was, where that is too short.
@@ -59,7 +59,7 @@ fn fill_one(archive: &mut [u8], k: usize)
     case[0] = 4;
     case[1] = 1;
     case[2] = 1;
-    put_u64(&mut case, 8, 7 * x + 1);
+    (7 * x + 1).put(&mut case, 8);
     put_line(archive, k, &case, [1000 * x, 1000 * x + 1, x, 0]);
 }
 

@@ -6,7 +6,7 @@ ghost use Rattle.listing.specs.Listing.{milligrams as Listing·milligrams};
 
 use crate::decimal::put_decimal;
 use crate::sink::Sink;
-use octets::{u8_at, u64_at};
+use octets::Octets;
 use records::figures_at;
 
 fn milligrams(figure: u64) -> u64
@@ -22,10 +22,10 @@ fn columns_of(bytes: &[u8]) -> [u64; 8]
 {
     let figures = figures_at(bytes);
     [
-        u64_at(bytes, 8),
-        u8_at(bytes, 0) as u64,
-        u8_at(bytes, 1) as u64,
-        u8_at(bytes, 2) as u64,
+        u64::at(bytes, 8),
+        u8::at(bytes, 0) as u64,
+        u8::at(bytes, 1) as u64,
+        u8::at(bytes, 2) as u64,
         milligrams(figures[0]),
         milligrams(figures[1]),
         milligrams(figures[2]),

@@ -6,7 +6,7 @@ ghost use Rattle.octets.specs.Bytes.{splice};
 ghost use Rattle.records.specs.Layout.{figure_bytes, trailer, line_of, used_length, most_records, figures_end, record_size, edition};
 ghost use Rattle.records.specs.Buffer.{count_at, broken, records_in, written};
 
-use octets::{put_bytes, put_u32, put_u64, u32_at, u64_at};
+use octets::{Octets, put_bytes};
 use std::array;
 
 pub mod search;
@@ -24,7 +24,7 @@ pub fn count_at(archive: &[u8], used: u64) -> usize
     requires { (16 ≤ used) × (used ≤ length archive.now) }
     ensures { result ≡ count_at archive.now used }
 {
-    u32_at(archive, used as usize - 8) as usize
+    u32::at(archive, used as usize - 8) as usize
 }
 
 // Whether refusal 21 holds.
@@ -38,8 +38,8 @@ pub fn is_broken(archive: &[u8], used: u64) -> bool
     let n = count_at(archive, used);
     MOST_RECORDS < n
         || end != RECORD_SIZE * n + TRAILER_SIZE
-        || u64_at(archive, end - 16) != (RECORD_SIZE * n) as u64
-        || u32_at(archive, end - 4) != EDITION
+        || u64::at(archive, end - 16) != (RECORD_SIZE * n) as u64
+        || u32::at(archive, end - 4) != EDITION
 }
 
 // The number of records, where refusal 21 does not hold.
@@ -59,7 +59,7 @@ pub fn put_figures(b: &mut [u8], at: usize, figures: [u64; 4])
     ensures { b.new ≡ splice b.old at (figure_bytes figures) }
 {
     for (k, figure) in figures.iter().enumerate() {
-        put_u64(b, at + 8 * k, *figure);
+        (*figure).put(b, at + 8 * k);
     }
 }
 
@@ -68,9 +68,9 @@ pub fn put_trailer(b: &mut [u8], at: usize, n: usize)
     requires { (at + 16 ≤ length b.old) × (n ≤ most_records) }
     ensures { b.new ≡ splice b.old at (trailer record_size edition n) }
 {
-    put_u64(b, at, (RECORD_SIZE * n) as u64);
-    put_u32(b, at + 8, n as u32);
-    put_u32(b, at + 12, EDITION);
+    ((RECORD_SIZE * n) as u64).put(b, at);
+    (n as u32).put(b, at + 8);
+    EDITION.put(b, at + 12);
 }
 
 // Writes a record behind the n records that are there, and the trailer behind it.
@@ -89,5 +89,5 @@ pub fn figures_at(bytes: &[u8]) -> [u64; 4]
     requires { figures_end ≤ length bytes.now }
     ensures { result ≡ (line_of bytes.now).figures }
 {
-    array::from_fn(|k| u64_at(bytes, 64 + 8 * k))
+    array::from_fn(|k| u64::at(bytes, 64 + 8 * k))
 }

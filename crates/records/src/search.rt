@@ -4,13 +4,13 @@ ghost use Rattle.records.specs.Layout.{first_lines, line_of, record_at, figures_
 ghost use Rattle.records.specs.Lines.{same_filing, held, figure, worst_of};
 
 use crate::RECORD_SIZE;
-use octets::{u32_at, u64_at};
+use octets::Octets;
 
 // Whether a record is the same filing as a case. Dossiers differ sooner than heads, so they are compared first.
 fn is_same_filing(filed: &[u8; RECORD_SIZE], case: &[u8; 64]) -> bool
     ensures { result ≡ same_filing (line_of filed.now).case case.now }
 {
-    u64_at(filed, 8) == u64_at(case, 8) && u32_at(filed, 0) == u32_at(case, 0)
+    u64::at(filed, 8) == u64::at(case, 8) && u32::at(filed, 0) == u32::at(case, 0)
 }
 
 // Whether one of n records is the same filing as the case.
@@ -29,7 +29,7 @@ fn figure_at(archive: &[u8], width: usize, k: usize, compartment: usize) -> u64
     requires { (width * k + width ≤ length archive.now) × (figures_end ≤ width) × (1 ≤ compartment) × (compartment ≤ 4) }
     ensures { result ≡ figure compartment (line_of (record_at width archive.now k)) }
 {
-    u64_at(archive, width * k + (56 + 8 * compartment))
+    u64::at(archive, width * k + (56 + 8 * compartment))
 }
 
 // The number of the first of n records whose figure is the highest: from each record that is above all before it to the next.

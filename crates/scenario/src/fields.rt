@@ -11,6 +11,7 @@ use kinds::{
     count_not_allowed, kind_unknown, route_not_allowed, row_unknown, usage_missing,
     user_not_allowed,
 };
+use octets::Octets;
 
 pub fn head_at(case: &[u8; 64]) -> Head
     ensures { result ≡ head_of case.now }
@@ -19,8 +20,8 @@ pub fn head_at(case: &[u8; 64]) -> Head
         row: case[1],
         route: case[2],
         user: case[3],
-        count: octets::u32_at(case, 4),
-        dossier: octets::u64_at(case, 8),
+        count: u32::at(case, 4),
+        dossier: u64::at(case, 8),
     }
 }
 

@@ -11,13 +11,13 @@ ghost use Rattle.scenario.specs.Faults.{add_faults, told_of, faults_of};
 use binary64::pattern::{is_unsigned_finite, quantity_of};
 use kinds::limits_of;
 use kinds::refusal::Refusal;
-use octets::u64_at;
+use octets::Octets;
 use std::array;
 
 pub fn patterns_at(case: &[u8; 64]) -> [u64; 6]
     ensures { result ≡ patterns_of case.now }
 {
-    array::from_fn(|i| u64_at(case, 16 + 8 * i))
+    array::from_fn(|i| u64::at(case, 16 + 8 * i))
 }
 
 // Whether refusals 8, 9 and 10 hold: no number from 0 on, unlisted and not zero bytes, over its limit.

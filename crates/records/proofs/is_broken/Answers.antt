@@ -8,10 +8,10 @@ pub returns-then-archive-used : goal.returns-then-archive-used
 unfolding broken
 returns-then-archive-used c = grind (arith, nat_tests)
 
-pub returns-then-u64_at-n : goal.returns-then-u64_at-n
+pub returns-then-at-n : goal.returns-then-at-n
 unfolding broken
-returns-then-u64_at-n c = grind (arith, nat_tests)
+returns-then-at-n c = grind (arith, nat_tests)
 
-pub returns-else-u64_at-n : goal.returns-else-u64_at-n
+pub returns-else-at-n : goal.returns-else-at-n
 unfolding broken
-returns-else-u64_at-n c = grind (arith, nat_tests)
+returns-else-at-n c = grind (arith, nat_tests)

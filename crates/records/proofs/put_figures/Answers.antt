@@ -17,7 +17,7 @@ loop-k-init c = sym (splice_nil _ _)
 pub loop-k-preserved : goal.loop-k-preserved
 loop-k-preserved c =
     let four : length c.args.figures ≡ 4 = search rules in
-    figures_written _ _ _ _ (omega arith) (omega arith) c.loop-k.invariant c.put_u64.ensures
+    figures_written _ _ _ _ (omega arith) (omega arith) c.loop-k.invariant c.put.ensures
 
 pub returns : goal.returns
 returns c =

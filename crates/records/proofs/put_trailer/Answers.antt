@@ -5,4 +5,4 @@ use Rattle.records.proofs.put_trailer.Goals as goal
 
 pub returns : goal.returns
 returns c =
-    trailer_written _ _ _ (omega arith) c.put_u64.ensures c.put_u32.ensures c.put_u32-2.ensures
+    trailer_written _ _ _ (omega arith) c.put.ensures c.put-2.ensures c.put-3.ensures

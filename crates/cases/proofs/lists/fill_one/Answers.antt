@@ -6,4 +6,4 @@ use Rattle.cases.proofs.lists.fill_one.Goals as goal
 
 pub returns : goal.returns
 returns c =
-    c.put_line.ensures ∙ ap (written _ _) (grown_case _ c.put_u64.ensures)
+    c.put_line.ensures ∙ ap (written _ _) (grown_case _ c.put.ensures)

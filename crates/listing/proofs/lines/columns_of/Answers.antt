@@ -4,4 +4,4 @@ use Rattle.listing.proofs.lines.columns_of.Goals as goal
 
 pub returns : goal.returns
 returns c =
-    columns_read _ _ c.figures_at-figures.ensures c.u64_at.ensures c.u8_at.ensures c.u8_at-2.ensures c.u8_at-3.ensures c.milligrams.ensures c.milligrams-2.ensures c.milligrams-3.ensures c.milligrams-4.ensures
+    columns_read _ _ c.figures_at-figures.ensures c.at.ensures c.at-2.ensures c.at-3.ensures c.at-4.ensures c.milligrams.ensures c.milligrams-2.ensures c.milligrams-3.ensures c.milligrams-4.ensures

@@ -5,4 +5,4 @@ use Rattle.records.proofs.WorstScan.{figure_read}
 use Rattle.records.proofs.search.figure_at.Goals as goal
 
 pub returns : goal.returns
-returns c = c.u64_at.ensures ∙ sym (figure_read _ _ _ _ (omega arith) (omega arith) (omega arith))
+returns c = c.at.ensures ∙ sym (figure_read _ _ _ _ (omega arith) (omega arith) (omega arith))

@@ -5,13 +5,13 @@ use borrow.Author.Tests.{eq-eqb, ne_eqb}
 use Rattle.records.proofs.SameFiling.{same_numbers}
 use Rattle.records.proofs.search.is_same_filing.Goals as goal
 
-pub returns-then-u64_at : goal.returns-then-u64_at
-returns-then-u64_at c =
+pub returns-then-at : goal.returns-then-at
+returns-then-at c =
     let same = same_numbers c.args.filed.now c.args.case.now c.fits-filed c.fits-case (search rules) (search rules) in
-    rw (c.u32_at.ensures, c.u32_at-then-u64_at.ensures) (rw (eq-eqb _ _ (sym c.u64_at.ensures ∙ c.if-u64_at.true ∙ c.u64_at-2.ensures)) at same)
+    rw (c.at-3.ensures, c.at-then-at.ensures) (rw (eq-eqb _ _ (sym c.at.ensures ∙ c.if-at.true ∙ c.at-2.ensures)) at same)
 
-pub returns-else-u64_at : goal.returns-else-u64_at
-returns-else-u64_at c =
+pub returns-else-at : goal.returns-else-at
+returns-else-at c =
     let same = same_numbers c.args.filed.now c.args.case.now c.fits-filed c.fits-case (search rules) (search rules) in
-    let other = ne_eqb _ _ (λ h. c.if-u64_at.false (c.u64_at.ensures ∙ h ∙ sym c.u64_at-2.ensures)) in
-    rw (c.u64_at.ensures, c.u64_at-2.ensures, other) (rw other at same)
+    let other = ne_eqb _ _ (λ h. c.if-at.false (c.at.ensures ∙ h ∙ sym c.at-2.ensures)) in
+    rw (c.at.ensures, c.at-2.ensures, other) (rw other at same)

@@ -4,4 +4,4 @@ use Rattle.scenario.proofs.fields.head_at.Goals as goal
 
 pub returns : goal.returns
 unfolding head_of
-returns c = rw (c.u64_at.ensures, c.u32_at.ensures)
+returns c = rw (c.at-2.ensures, c.at.ensures)
