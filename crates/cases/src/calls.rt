@@ -9,7 +9,7 @@ use crate::fields::Fields;
 use crate::lists;
 use crate::output::Output;
 use crate::words::named;
-use archive::{Emptied, Filing, Highest};
+use kinds::refusal::Refusal;
 
 #[derive(Clone, Copy, PartialEq, Eq)]
 pub enum Call {
@@ -76,7 +76,8 @@ pub fn used_after(
     used
 }
 
-fn print_refusal(output: &mut Output, number: u32) {
+fn print_refusal(output: &mut Output, refusal: Refusal) {
+    let number = refusal.number();
     output.print(format_args!(": refused {number}"));
 }
 
@@ -86,13 +87,13 @@ fn print_figures(output: &mut Output, figures: [u64; 4]) {
 }
 
 fn work_out(output: &mut Output, case: &[u8]) {
-    let worked = emission::work_out(case);
-    if worked.refusal != 0 {
-        print_refusal(output, worked.refusal);
-        return;
+    match emission::work_out(case) {
+        Ok(figures) => {
+            output.print(": ");
+            print_figures(output, figures);
+        }
+        Err(refusal) => print_refusal(output, refusal),
     }
-    output.print(": ");
-    print_figures(output, worked.figures);
 }
 
 // The used length afterwards.
@@ -100,12 +101,12 @@ fn empty(output: &mut Output, archive: &mut [u8]) -> u64
     ensures { (result ≡ used_in (of_emptied (emptying archive.old)).places 0) × (archive.new ≡ empty_bytes archive.old) }
 {
     match archive::empty(archive) {
-        Emptied::Used(length) => {
+        Ok(length) => {
             output.print(format_args!(": used {length}"));
             length
         }
-        Emptied::Refused(n) => {
-            print_refusal(output, n);
+        Err(refusal) => {
+            print_refusal(output, refusal);
             0
         }
     }
@@ -116,15 +117,14 @@ fn file(output: &mut Output, archive: &mut [u8], used: u64, case: &[u8]) -> u64
     ensures { (result ≡ used_in (of_filing (filing archive.old used (offer case.now)) used).places used) × (archive.new ≡ file_bytes archive.old used (offer case.now)) }
 {
     match archive::file(archive, used, case) {
-        Filing::Filed {
-            number,
-            used: length,
-        } => {
+        Ok(filed) => {
+            let number = filed.number;
+            let length = filed.used;
             output.print(format_args!(": number {number}, used {length}"));
             length
         }
-        Filing::Refused(n) => {
-            print_refusal(output, n);
+        Err(refusal) => {
+            print_refusal(output, refusal);
             used
         }
     }
@@ -132,28 +132,27 @@ fn file(output: &mut Output, archive: &mut [u8], used: u64, case: &[u8]) -> u64
 
 // The figures of the record that is shown.
 fn show(output: &mut Output, archive: &[u8], used: u64, number: u64) {
-    let refusal = archive::show_refusal(archive, used, number);
     let part = archive::show(archive, used, number);
     let n = part.len();
-    if refusal != 0 {
+    if let Err(refusal) = archive::show_refusal(archive, used, number) {
         print_refusal(output, refusal);
         output.print(format_args!(", bytes {n}"));
         return;
     }
     output.print(format_args!(": bytes {n}"));
-    let read = archive::figures_of(part);
-    if !read.found {
-        output.print(", no record");
-        return;
+    match archive::figures_of(part) {
+        Some(figures) => {
+            output.print(", figures ");
+            print_figures(output, figures);
+        }
+        None => output.print(", no record"),
     }
-    output.print(", figures ");
-    print_figures(output, read.figures);
 }
 
 fn worst(output: &mut Output, archive: &[u8], used: u64, compartment: u64) {
     match archive::worst(archive, used, compartment) {
-        Highest::Number(k) => output.print(format_args!(": number {k}")),
-        Highest::Refused(n) => print_refusal(output, n),
+        Ok(k) => output.print(format_args!(": number {k}")),
+        Err(refusal) => print_refusal(output, refusal),
     }
 }
 
@@ -172,14 +171,17 @@ fn load(output: &mut Output, figure: u64) {
     print_bytes(output, &load::load(figure));
 }
 
-// The four loads, beside a refusal too.
+// The four loads, zeros beside a refusal.
 fn export(output: &mut Output, archive: &[u8], used: u64, number: u64) {
-    let exported = export::export(archive, used, number);
-    if exported.refusal != 0 {
-        print_refusal(output, exported.refusal);
-    }
+    let loads = match export::export(archive, used, number) {
+        Ok(loads) => loads,
+        Err(refusal) => {
+            print_refusal(output, refusal);
+            [0; 32]
+        }
+    };
     output.print(": loads");
-    print_bytes(output, &exported.loads);
+    print_bytes(output, &loads);
 }
 
 // Another byte at a place.

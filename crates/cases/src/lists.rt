@@ -6,7 +6,7 @@ ghost use Rattle.listing.specs.Listing.{listed_bytes};
 ghost use Rattle.cases.specs.Calls.{recorded_length, recorded_bytes, grown, filled, filled_length, filled_bytes};
 
 use crate::output::Output;
-use listing::{Listed, MOST_OUTPUT};
+use listing::MOST_OUTPUT;
 use octets::Octets;
 use records::{figures_at, put_line};
 
@@ -15,9 +15,10 @@ fn list_by(output: &mut Output, archive: &[u8], out: &mut [u8])
     ensures { out.new ≡ listed_bytes archive.now out.old }
 {
     let written = match listing::print(archive, out) {
-        Listed::Written(n) => n,
-        Listed::Needs(n) => {
-            output.print(format_args!(": needs {n}"));
+        Ok(n) => n,
+        Err(short) => {
+            let needed = short.needed;
+            output.print(format_args!(": needs {needed}"));
             out.len() as u64
         }
     };
@@ -45,7 +46,8 @@ pub fn record(archive: &mut [u8], used: u64, bytes: &[u8; 96]) -> u64
     if archive.len() < 96 * n + 112 {
         return used;
     }
-    put_line(archive, n, &bytes[..64], figures_at(bytes));
+    let case = bytes[..64].as_array().unwrap();
+    put_line(archive, n, case, figures_at(bytes));
     used + 96
 }
 

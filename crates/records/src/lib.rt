@@ -59,7 +59,7 @@ pub fn put_figures(b: &mut [u8], at: usize, figures: [u64; 4])
     ensures { b.new ≡ splice b.old at (figure_bytes figures) }
 {
     for (k, figure) in figures.iter().enumerate() {
-        (*figure).put(b, at + 8 * k);
+        figure.put(b, at + 8 * k);
     }
 }
 

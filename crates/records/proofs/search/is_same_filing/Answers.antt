@@ -8,7 +8,7 @@ use Rattle.records.proofs.search.is_same_filing.Goals as goal
 pub returns-then-at : goal.returns-then-at
 returns-then-at c =
     let same = same_numbers c.args.filed.now c.args.case.now c.fits-filed c.fits-case (search rules) (search rules) in
-    rw (c.at-3.ensures, c.at-then-at.ensures) (rw (eq-eqb _ _ (sym c.at.ensures ∙ c.if-at.true ∙ c.at-2.ensures)) at same)
+    rw (c.at-then-at.ensures, c.at-then-at-2.ensures) (rw (eq-eqb _ _ (sym c.at.ensures ∙ c.if-at.true ∙ c.at-2.ensures)) at same)
 
 pub returns-else-at : goal.returns-else-at
 returns-else-at c =
