@@ -1,5 +1,5 @@
 -- Laws of the refusals of this crate's calls. The laws of any list of conditions are in crate kinds.
--- `compartment_within` (12 does not hold); `full_exactly`, `full_short`, `full_most` (23 of a filing, in plain numbers).
+-- `compartment_known` (12 does not hold of what is one); `full_exactly`, `full_short`, `full_most` (23 of a filing, in plain numbers).
 -- A filing's list begins with the offer's own, of which none holds exactly where it is within the ranges, `own_exactly`: `behind_own`; where none of all holds, `none_of_all`; of an offer within the ranges, `within_behind`; file's is then `from_state_lem`, or else `case_refused`.
 -- That a refusal is the first that holds is in `history`.
 use mathlib.Core.Path.{◌≡◌, refl, sym, ◌∙◌}
@@ -8,18 +8,24 @@ use mathlib.Core.List.{List, ◌++◌}
 use Prim.Native.Nat.{ℕ, zero, suc, ◌+◌, ◌-◌, ◌≤◌, ◌<◌}
 use native.Mathlib.Omega.{arith}
 use borrow.Author.Tests.{ltb-false, eqb-false, le-ltb, ne_eqb}
-use lib.Dec.{ltb, eqb}
+use lib.Dec.{eqb}
 use Rattle.kinds.specs.Refusal.{Condition, first_of}
 use Rattle.kinds.specs.Case.{refusals, refusal_of}
 use Rattle.octets.proofs.Bools.{neither}
 use Rattle.kinds.proofs.Refusals.{first_of_append, first_of_some}
+use Rattle.records.specs.Compartments.{compartment_number}
+use Rattle.records.specs.declared.compartment.Compartment.{Compartment}
+use Rattle.records.specs.declared.compartment.Compartment.TheVariants.{Stp, SurfaceWater, Air, Soil}
 use Rattle.archive.specs.Conditions.{full, not_compartment}
 use Rattle.records.specs.Layout.{most_records, record_size}
 use Rattle.archive.specs.Offers.{Offer, offer, own_refusals, Within}
 use Rattle.archive.specs.Archive.{from_state, file_refusals, file_refusal}
 
-pub compartment_within : (m : ℕ) → not_compartment m ≡ false → (1 ≤ m) × (m ≤ 4)
-compartment_within m e = let p = neither (ltb m 1) (ltb 4 m) e in (ltb-false m 1 p.0, ltb-false 4 m p.1)
+pub compartment_known : (c : Compartment) → not_compartment (compartment_number c) ≡ false
+compartment_known Stp = refl
+compartment_known SurfaceWater = refl
+compartment_known Air = refl
+compartment_known Soil = refl
 
 -- ── free space in plain numbers
 

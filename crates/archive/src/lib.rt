@@ -13,6 +13,7 @@ ghost use Rattle.archive.specs.Archive.{empty_answer, empty_bytes, emptying, fro
 
 use emission::work_out;
 use kinds::refusal::Refusal;
+use records::compartment::Compartment;
 use records::search;
 
 // A record that was filed, and the used length behind it.
@@ -98,14 +99,12 @@ pub fn show(archive: &[u8], used: u64, number: u64) -> &[u8]
 pub fn worst(archive: &[u8], used: u64, compartment: u64) -> Result<u64, Refusal>
     ensures { (result ≡ naming archive.now used compartment) × (of_highest result ≡ worst_answer archive.now used compartment) }
 {
-    if !(1..=4).contains(&compartment) {
-        return Err(Refusal::NotCompartment);
-    }
+    let compartment = Compartment::try_from(compartment)?;
     let n = count(archive, used)?;
     if n == 0 {
         return Err(Refusal::NoRecord);
     }
-    Ok(search::worst_of(archive, records::RECORD_SIZE, n, compartment as usize) as u64)
+    Ok(search::worst_of(archive, records::RECORD_SIZE, n, compartment) as u64)
 }
 
 // The four figures of a record, such as show lends; none of other bytes, such as the empty part beside a refusal.

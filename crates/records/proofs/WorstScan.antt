@@ -1,5 +1,5 @@
 -- The search for the worst of n records, each as long as the width w, in a buffer b.
--- The figure of record k: `figure_in`, `figure_read`. From one record to the next that outranks it: `scan_start`, `scan_next`; where there is none: `scan_end`.
+-- A compartment's number is one of four: `one_of_four`. The figure of record k: `figure_in`, `figure_read`. From one record to the next that outranks it: `scan_start`, `scan_next`; where there is none: `scan_end`.
 use mathlib.Core.Path.{◌≡◌, refl, ap, ◌∙◌}
 use mathlib.Core.Bool.{true, false}
 use mathlib.Core.List.{List}
@@ -9,6 +9,9 @@ use native.Mathlib.Omega.{arith}
 use lib.ListN.{get_or, drop}
 use Rattle.octets.specs.Bytes.{number_at}
 use Rattle.records.specs.Layout.{figures_in, record_at, line_of, first_lines, figures_end}
+use Rattle.records.specs.Compartments.{compartment_number}
+use Rattle.records.specs.declared.compartment.Compartment.{Compartment}
+use Rattle.records.specs.declared.compartment.Compartment.TheVariants.{Stp, SurfaceWater, Air, Soil}
 use Rattle.records.specs.Lines.{figure, figure_of, outranks, worst_of}
 use Rattle.records.proofs.RecordLaws.{number_at_drop, number_part, length_first_lines}
 use Rattle.records.proofs.LinesFrom.{line_at}
@@ -23,6 +26,12 @@ figures_in_at (suc m) zero b h = refl
 figures_in_at (suc m) (suc c) b h =
     let e : 8 * suc c ≡ 8 + 8 * c = omega (arith, mul-suc 8 c) in
     figures_in_at m c (drop 8 b) (le_of_suc-le-suc h) ∙ rw e (number_at_drop b 8 (8 * c) 8)
+
+pub one_of_four : (c : Compartment) → (1 ≤ compartment_number c) × (compartment_number c ≤ 4)
+one_of_four Stp = omega arith
+one_of_four SurfaceWater = omega arith
+one_of_four Air = omega arith
+one_of_four Soil = omega arith
 
 module _ (w m : ℕ) (b : List ℕ) where
   abbrev pub figure_in : ℕ → ℕ

@@ -9,6 +9,7 @@ ghost use Rattle.records.specs.Buffer.{count_at, broken, records_in, written};
 use octets::{Octets, put_bytes};
 use std::array;
 
+pub mod compartment;
 pub mod search;
 
 pub const RECORD_SIZE: usize = 96;

@@ -1,9 +1,11 @@
 // Searches over the records. Each record is touched once, with one load for each field that is compared.
 ghost use Rattle.std.specs.Prelude.{◌≡◌, ◌+◌, ◌*◌, ◌≤◌, length};
 ghost use Rattle.records.specs.Layout.{first_lines, line_of, record_at, figures_end, record_size};
+ghost use Rattle.records.specs.Compartments.{compartment_number};
 ghost use Rattle.records.specs.Lines.{same_filing, held, figure, worst_of};
 
 use crate::RECORD_SIZE;
+use crate::compartment::Compartment;
 use octets::Octets;
 
 // Whether a record is the same filing as a case. Dossiers differ sooner than heads, so they are compared first.
@@ -25,17 +27,17 @@ pub fn is_held(archive: &[u8], n: usize, case: &[u8; 64]) -> bool
 }
 
 // A figure of record k.
-fn figure_at(archive: &[u8], width: usize, k: usize, compartment: usize) -> u64
-    requires { (width * k + width ≤ length archive.now) × (figures_end ≤ width) × (1 ≤ compartment) × (compartment ≤ 4) }
-    ensures { result ≡ figure compartment (line_of (record_at width archive.now k)) }
+fn figure_at(archive: &[u8], width: usize, k: usize, compartment: Compartment) -> u64
+    requires { (width * k + width ≤ length archive.now) × (figures_end ≤ width) }
+    ensures { result ≡ figure (compartment_number compartment) (line_of (record_at width archive.now k)) }
 {
-    u64::at(archive, width * k + (56 + 8 * compartment))
+    u64::at(archive, width * k + (56 + 8 * compartment.number()))
 }
 
 // The number of the first of n records whose figure is the highest: from each record that is above all before it to the next.
-pub fn worst_of(archive: &[u8], width: usize, n: usize, compartment: usize) -> usize
-    requires { (width * n ≤ length archive.now) × (figures_end ≤ width) × (1 ≤ compartment) × (compartment ≤ 4) }
-    ensures { result ≡ worst_of compartment (first_lines width n archive.now) }
+pub fn worst_of(archive: &[u8], width: usize, n: usize, compartment: Compartment) -> usize
+    requires { (width * n ≤ length archive.now) × (figures_end ≤ width) }
+    ensures { result ≡ worst_of (compartment_number compartment) (first_lines width n archive.now) }
 {
     if n == 0 {
         return 0;
