@@ -1,15 +1,18 @@
 -- Laws of the refusals of this crate's calls. The laws of any list of conditions are in crate kinds.
--- `compartment_known` (12 does not hold of what is one); `full_exactly`, `full_short`, `full_most` (23 of a filing, in plain numbers).
+-- `empty_named`, `state_named`, `show_named`, `worst_named`: the refusals of each call by name. `compartment_known` (12 does not hold of what is one); `full_exactly`, `full_short`, `full_most` (23 of a filing, in plain numbers).
 -- A filing's list begins with the offer's own, of which none holds exactly where it is within the ranges, `own_exactly`: `behind_own`; where none of all holds, `none_of_all`; of an offer within the ranges, `within_behind`; file's is then `from_state_lem`, or else `case_refused`.
 -- That a refusal is the first that holds is in `history`.
 use mathlib.Core.Path.{◌≡◌, refl, sym, ◌∙◌}
 use mathlib.Core.Bool.{Bool, true, false, cond}
-use mathlib.Core.List.{List, ◌++◌}
+use mathlib.Core.List.{List, [], ◌∷◌, ◌++◌}
 use Prim.Native.Nat.{ℕ, zero, suc, ◌+◌, ◌-◌, ◌≤◌, ◌<◌}
 use native.Mathlib.Omega.{arith}
 use borrow.Author.Tests.{ltb-false, eqb-false, le-ltb, ne_eqb}
-use lib.Dec.{eqb}
-use Rattle.kinds.specs.Refusal.{Condition, first_of}
+use lib.Dec.{eqb, leb, ltb}
+use lib.ListN.{length}
+use Rattle.kinds.specs.Number.{number}
+use Rattle.kinds.specs.declared.refusal.Refusal.TheVariants.{NotCompartment, Broken, Held, Full, NoRecord}
+use Rattle.kinds.specs.Refusal.{Condition, ◌when◌, first_of}
 use Rattle.kinds.specs.Case.{refusals, refusal_of}
 use Rattle.octets.proofs.Bools.{neither}
 use Rattle.kinds.proofs.Refusals.{first_of_append, first_of_some}
@@ -17,9 +20,30 @@ use Rattle.records.specs.Compartments.{compartment_number}
 use Rattle.records.specs.declared.compartment.Compartment.{Compartment}
 use Rattle.records.specs.declared.compartment.Compartment.TheVariants.{Stp, SurfaceWater, Air, Soil}
 use Rattle.archive.specs.Conditions.{full, not_compartment}
-use Rattle.records.specs.Layout.{most_records, record_size}
+use Rattle.records.specs.Buffer.{count_at, broken, lines_in}
+use Rattle.records.specs.Layout.{most_records, record_size, trailer_size}
+use Rattle.records.specs.Lines.{held}
 use Rattle.archive.specs.Offers.{Offer, offer, own_refusals, Within}
-use Rattle.archive.specs.Archive.{from_state, file_refusals, file_refusal}
+use Rattle.archive.specs.Archive.{empty_refusals, from_state, file_refusals, file_refusal, show_refusals, worst_refusals}
+
+-- ── by name: which refusal each condition is for
+
+pub empty_named : (b : List ℕ) → empty_refusals b ≡ (number Full when ltb (length b) trailer_size) ∷ []
+unfolding empty_refusals
+empty_named b = refl
+
+pub state_named : (b : List ℕ) (u : ℕ) (o : Offer) → from_state b u o
+    ≡ (number Broken when broken b u) ∷ (number Held when held (lines_in b u) o.case) ∷ (number Full when full (length b) u (count_at b u)) ∷ []
+state_named b u o = refl
+
+pub show_named : (b : List ℕ) (u k : ℕ) → show_refusals b u k ≡ (number Broken when broken b u) ∷ (number NoRecord when leb (count_at b u) k) ∷ []
+unfolding show_refusals
+show_named b u k = refl
+
+pub worst_named : (b : List ℕ) (u m : ℕ) → worst_refusals b u m
+    ≡ (number NotCompartment when not_compartment m) ∷ (number Broken when broken b u) ∷ (number NoRecord when eqb (count_at b u) 0) ∷ []
+unfolding worst_refusals
+worst_named b u m = refl
 
 pub compartment_known : (c : Compartment) → not_compartment (compartment_number c) ≡ false
 compartment_known Stp = refl

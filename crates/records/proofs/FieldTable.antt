@@ -1,5 +1,5 @@
 -- The tables of fields cover record and trailer, each byte once: `fields_cover`, `trailer_fields_cover`, by one computed test of each (`Covering`).
--- In other terms: `fields_of_case`, `fields_read`, `figures_read`, the fields are those that a case is written by, and that are read of it and of a record; `trailer_fields_read`, of the trailer; `numbered_record`, `numbered_fields`, the record whose bytes are 1 to 96, with the names of its fields; `numbered_trailer`.
+-- In other terms: `fields_of_case`, `fields_read`, `figures_read`, `compartments_named`, the fields are those that a case is written by, and that are read of it and of a record; `trailer_fields_read`, of the trailer; `numbered_record`, `numbered_fields`, the record whose bytes are 1 to 96, with the names of its fields; `numbered_trailer`.
 -- A field of the table in the record of a line: `field_in_record`, with as many bytes as it is wide: `field_wide`; in the trailer of n records: `field_in_trailer`. Among figures: `figure_place`.
 -- Fields in what is written are in `FieldsWritten`.
 use mathlib.Core.Path.{◌≡◌, refl, sym, ap, ◌∙◌}
@@ -20,6 +20,8 @@ use Rattle.kinds.specs.Case.{kind_of, row_of, route_of, user_of, count_of, dossi
 use Rattle.kinds.specs.Builder.{case_bytes}
 use Rattle.records.specs.Layout.{Line, figure_bytes, record_of, line_of, trailer, trailer_size, record_size, edition, bytes_at}
 use Rattle.records.specs.Fields.{Source, given, figure_at, Field, fields, no_field, bytes_from, field_bytes, trailer_fields, no_trailer_field, trailer_field_bytes, Cover}
+use Rattle.records.specs.Compartments.{compartment_number}
+use Rattle.records.specs.declared.compartment.Compartment.TheVariants.{Stp, SurfaceWater, Air, Soil}
 use Rattle.records.specs.Buffer.{distance_at, count_at, edition_at}
 use Rattle.records.proofs.RecordLaws.{part_append, line_figures, Sized, length_record_of}
 use Rattle.records.proofs.Covering.{in_order_covers}
@@ -50,6 +52,12 @@ fields_read c = rw (number_at_one c 0, number_at_one c 1, number_at_one c 2, num
 
 pub figures_read : (r : List ℕ) → map (λ (x : Field Source). number_at r x.offset x.width) (take 4 (drop 12 fields)) ≡ (line_of r).figures
 figures_read r = sym (line_figures r)
+
+-- each figure stands under the name of its compartment
+pub compartments_named : map {B = String × Source} (λ (x : Field Source). (x.name, x.source)) (drop 12 fields)
+    ≡ ("STP", figure_at (compartment_number Stp - 1)) ∷ ("surface water", figure_at (compartment_number SurfaceWater - 1))
+    ∷ ("air", figure_at (compartment_number Air - 1)) ∷ ("soil", figure_at (compartment_number Soil - 1)) ∷ []
+compartments_named = refl
 
 -- and those of the trailer are the ones that are read before a used length
 pub trailer_fields_read : (b : List ℕ) (u : ℕ) → 16 ≤ u
