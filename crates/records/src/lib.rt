@@ -32,15 +32,20 @@ pub fn count_at(archive: &[u8], used: u64) -> usize
 pub fn is_broken(archive: &[u8], used: u64) -> bool
     ensures { result ≡ broken archive.now used }
 {
-    if (archive.len() as u64) < used || used < TRAILER_SIZE as u64 {
+    if (archive.len() as u64) < used {
+        return true;
+    }
+    if used < TRAILER_SIZE as u64 {
+        return true;
+    }
+    let n = count_at(archive, used);
+    if MOST_RECORDS < n {
         return true;
     }
     let end = used as usize;
-    let n = count_at(archive, used);
-    MOST_RECORDS < n
-        || end != RECORD_SIZE * n + TRAILER_SIZE
-        || u64::at(archive, end - 16) != (RECORD_SIZE * n) as u64
-        || u32::at(archive, end - 4) != EDITION
+    let records = RECORD_SIZE * n;
+    (end != records + TRAILER_SIZE)
+        | ((u64::at(archive, end - 16) != records as u64) | (u32::at(archive, end - 4) != EDITION))
 }
 
 // The number of records, where refusal 21 does not hold.
