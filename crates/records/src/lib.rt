@@ -44,6 +44,7 @@ pub fn is_broken(archive: &[u8], used: u64) -> bool
     }
     let end = used as usize;
     let records = RECORD_SIZE * n;
+    // No branch between them: with one, an export of a figure and three zeros takes a quarter longer.
     (end != records + TRAILER_SIZE)
         | ((u64::at(archive, end - 16) != records as u64) | (u32::at(archive, end - 4) != EDITION))
 }
