@@ -56,7 +56,7 @@ pub fn application(active: f64, site: Site, head: Head) -> u64
     let lost = hundredths(head.user);
     if head.row == 0 {
         let quantities = [site.area, site.volume, site.density, active];
-        return product_up(&quantities, lost * 10000 * (head.count as u64), 1);
+        return product_up(&quantities, lost * 10000 * u64::from(head.count), 1);
     }
     product_up(
         &[active],
@@ -145,7 +145,7 @@ pub fn toilets(
     ensures { result ≡ rounded_up (micrograms (to_water (Toilets dose active density disintegrated plant) head)) }
 {
     let quantities = [dose, density, active, plant];
-    let emptied = count_or(head, 1) as u64;
+    let emptied = u64::from(count_or(head, 1));
     remainder_up(disintegrated, &quantities, 2000000000000 * emptied, 3)
 }
 
@@ -154,7 +154,7 @@ fn plastics_part(tonnes: u32, active: f64, part: f64, days: u32) -> u64
     requires { (tonnes ≤ 23100) × (1 ≤ days) × Within (active ∷ part ∷ []) (1 ∷ 1 ∷ []) }
     ensures { result ≡ rounded_up (micrograms (plastics tonnes active part days)) }
 {
-    product_up(&[active, part], tonnes as u64 * 1000000000000, days)
+    product_up(&[active, part], u64::from(tonnes) * 1000000000000, days)
 }
 
 // 8. Plastics. Without a usage there is no equation.

@@ -23,9 +23,9 @@ fn columns_of(bytes: &[u8]) -> [u64; 8]
     let figures = figures_at(bytes);
     [
         u64::at(bytes, 8),
-        u8::at(bytes, 0) as u64,
-        u8::at(bytes, 1) as u64,
-        u8::at(bytes, 2) as u64,
+        u64::from(u8::at(bytes, 0)),
+        u64::from(u8::at(bytes, 1)),
+        u64::from(u8::at(bytes, 2)),
         milligrams(figures[0]),
         milligrams(figures[1]),
         milligrams(figures[2]),

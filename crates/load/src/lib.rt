@@ -18,7 +18,7 @@ pub fn load_pattern(figure: u64) -> u64
     }
     let zeros = figure.leading_zeros();
     let shifted = figure << zeros;
-    (1085 - zeros as u64) * 0x10_0000_0000_0000 + ((shifted - 1) >> 11) + 1
+    (1085 - u64::from(zeros)) * 0x10_0000_0000_0000 + ((shifted - 1) >> 11) + 1
 }
 
 // The bytes of a figure's load.

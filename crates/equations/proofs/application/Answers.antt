@@ -22,7 +22,7 @@ pub overflow_mul-lost-then-head-eq0 : goal.overflow_mul-lost-then-head-eq0
 unfolding InRange
 overflow_mul-lost-then-head-eq0 c =
     let t = c.requires.1 in
-    let p : c.hundredths-lost.result * c.args.head.count ≤ 5 * c.args.head.count = mul-le-mul_right _ c.hundredths-lost.ensures.1 in
+    let p : c.hundredths-lost.result * c.from.result ≤ 5 * c.from.result = mul-le-mul_right _ c.hundredths-lost.ensures.1 in
     record { fits = omega arith }
 
 pub product_up-requires : goal.product_up-requires
@@ -34,9 +34,9 @@ unfolding InRange emitted numbers others product_of
 returns-then-head-eq0 c =
     let a = c.args in
     let t = c.requires.1 in
-    let p : c.hundredths-lost.result * a.head.count ≤ 5 * a.head.count = mul-le-mul_right _ c.hundredths-lost.ensures.1 in
-    let l = term (application a.active (quantity a.site.area) (quantity a.site.volume) (quantity a.site.density) (number c.hundredths-lost.result 100) a.head.count) in
-    rw (eq-eqb a.head.row 0 c.if-head-eq0.true, ← c.hundredths-lost.ensures.0)
+    let p : c.hundredths-lost.result * c.from.result ≤ 5 * c.from.result = mul-le-mul_right _ c.hundredths-lost.ensures.1 in
+    let l = term (application a.active (quantity a.site.area) (quantity a.site.volume) (quantity a.site.density) (number c.hundredths-lost.result 100) c.from.result) in
+    rw (eq-eqb a.head.row 0 c.if-head-eq0.true, ← c.hundredths-lost.ensures.0, ← c.from.ensures)
     (figure l _ _ _ _ _ c.product_up.ensures refl (omega arith) (omega arith) (omega arith) (chain_at_most _ limits c.requires.2) (omega arith))
 
 pub overflow_mul-lost-2 : goal.overflow_mul-lost-2

@@ -24,4 +24,5 @@ returns c =
     let a = c.args in
     let h = c.requires.0 in
     let t = c.requires.1 in
-    figure (term (plastics a.tonnes a.active a.part a.days)) _ _ _ _ _ c.product_up.ensures refl (omega arith) (omega arith) (omega arith) (chain_at_most (a.active ∷ a.part ∷ []) limits c.requires.2) (omega arith)
+    rw (← c.from.ensures)
+    (figure (term (plastics c.from.result a.active a.part a.days)) _ _ _ _ _ c.product_up.ensures refl (omega arith) (omega arith) (omega arith) (chain_at_most (a.active ∷ a.part ∷ []) limits c.requires.2) (omega arith))

@@ -19,7 +19,7 @@ limits = 1 ∷ 5 ∷ 1 ∷ 1 ∷ []
 pub overflow_mul-emptied : goal.overflow_mul-emptied
 unfolding InRange
 overflow_mul-emptied c =
-    let h : c.count_or-emptied.result ≤ 100 = rw c.count_or-emptied.ensures (counted (λ (n : ℕ). n ≤ 100) c.args.head.row c.args.head.count 1 (λ _. c.requires.0) (omega arith)) in
+    let h : c.from-emptied.result ≤ 100 = rw (c.from-emptied.ensures, c.count_or.ensures) (counted (λ (n : ℕ). n ≤ 100) c.args.head.row c.args.head.count 1 (λ _. c.requires.0) (omega arith)) in
     record { fits = omega arith }
 
 pub remainder_up-requires : goal.remainder_up-requires
@@ -32,7 +32,7 @@ pub returns : goal.returns
 unfolding InRange Within emitted numbers others product_of
 returns c =
     let a = c.args in
-    let h : c.count_or-emptied.result ≤ 100 = rw c.count_or-emptied.ensures (counted (λ (n : ℕ). n ≤ 100) c.args.head.row c.args.head.count 1 (λ _. c.requires.0) (omega arith)) in
-    rw (← c.count_or-emptied.ensures)
-    (figure (term (toilets a.dose a.active a.density a.disintegrated a.plant c.count_or-emptied.result)) _ _ _ _ _ c.remainder_up.ensures
+    let h : c.from-emptied.result ≤ 100 = rw (c.from-emptied.ensures, c.count_or.ensures) (counted (λ (n : ℕ). n ≤ 100) c.args.head.row c.args.head.count 1 (λ _. c.requires.0) (omega arith)) in
+    rw (← c.count_or.ensures, ← c.from-emptied.ensures)
+    (figure (term (toilets a.dose a.active a.density a.disintegrated a.plant c.from-emptied.result)) _ _ _ _ _ c.remainder_up.ensures
     (sym (pull (quantity a.dose ∷ quantity a.density ∷ quantity a.active ∷ []) (less a.disintegrated) (quantity a.plant ∷ []))) (omega arith) (omega arith) (omega arith) (remainder_at_most _ (a.dose ∷ a.density ∷ a.active ∷ a.plant ∷ []) limits c.requires.1.1) (omega arith))
