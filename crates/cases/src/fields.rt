@@ -74,7 +74,7 @@ impl Fields {
     pub fn case(&self) -> &[u8]
         ensures { result.now ≡ case_in self.now }
     {
-        &self.bytes[..(self.length as usize).min(96)]
+        &self.bytes[..usize::from(self.length).min(96)]
     }
 
     // Nothing where the number does not fit the field.
@@ -89,12 +89,7 @@ impl Fields {
                     return None;
                 }
             }
-            Field::Length => {
-                if 255 < x {
-                    return None;
-                }
-                self.length = x as u8;
-            }
+            Field::Length => self.length = u8::try_from(x).ok()?,
         }
         Some(self)
     }
