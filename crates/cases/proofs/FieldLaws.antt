@@ -1,25 +1,24 @@
 -- Laws of fields.
---   put_step, put_end, left_step, left_end   a number's bytes, written one after another, and what is left of it
---   field_set                                a word's field and its number
---   field_holds                              a field that has a name stands within a record
+--   first_of, left_of     the first of a number's bytes, and what is left of it
+--   field_set             a word's field and its number
+--   field_holds           a field that has a name stands within a record, and has up to eight bytes
 use mathlib.Core.Path.{◌≡◌, refl, sym, ap, ◌∙◌}
 use mathlib.Core.Bool.{Bool, true, false, ◌&&◌, cond}
 use mathlib.Core.List.{List, [], ◌∷◌, ◌++◌}
-use Prim.Native.Nat.{ℕ, suc, ◌+◌, ◌-◌, ◌/◌, ◌%◌, ◌^◌, ◌≤◌, ◌<◌}
-use native.Mathlib.Nat.{div-one, div-div-eq-div-mul, pow-succ'}
+use Prim.Native.Nat.{ℕ, zero, suc, ◌+◌, ◌-◌, ◌*◌, ◌/◌, ◌%◌, ◌^◌, ◌≤◌, ◌<◌}
+use native.Mathlib.Nat.{pow-suc, div-eq_of_lt}
 use native.Mathlib.Omega.{arith}
 use borrow.Author.Tests.{leb-true, ne_eqb}
 use lib.Dec.{leb}
-use lib.ListN.{length, take, drop, set}
-use Rattle.std.specs.Prelude.{codes, Option, Some}
+use lib.ListN.{length, take, drop}
+use Rattle.std.specs.Prelude.{codes, Option, None, Some, SomeIff}
+use Rattle.std.proofs.Math.Pow.{pow_mono}
+use Rattle.std.proofs.lemmas.Nat.{pow-add}
 use Rattle.std.specs.List.{list_all}
-use Rattle.std.specs.Option.{option_and_then}
+use Rattle.std.specs.Option.{option_and_then, unwrap_or}
 use Rattle.std.specs.Str.{bytes_eq}
 use Rattle.octets.proofs.Bools.{both}
-use Rattle.octets.specs.Bytes.{bytes_of, splice}
-use Rattle.octets.proofs.Numbers.{length_bytes_of}
-use Rattle.octets.proofs.Splice.{splice_nil, splice_join}
-use Rattle.listing.proofs.Stores.{store_one}
+use Rattle.octets.specs.Bytes.{bytes_of}
 use Rattle.cases.specs.declared.fields.Fields.{Fields}
 use Rattle.cases.specs.declared.fields.Field.{Field}
 use Rattle.cases.specs.declared.fields.Field.TheVariants.{Number, Part, Length}
@@ -28,25 +27,26 @@ use Rattle.cases.specs.Numbers.{number_in}
 use Rattle.cases.specs.Fields.{parts, field_named, holds, sign_in, field_of, value_of, with_number, with_field}
 use Rattle.cases.proofs.WordLaws.{rest_is}
 
--- ── a number's bytes, from the one with number i on
-module _ (l : List ℕ) (at w i y : ℕ) where
-  pub put_step : i < w → at + w ≤ length l → splice (set l (at + i) (y % 256)) (at + (i + 1)) (bytes_of (w - (i + 1)) (y / 256)) ≡ splice l (at + i) (bytes_of (w - i) y)
-  unfolding bytes_of
-  put_step h g =
-      let d : w - i ≡ suc (w - (i + 1)) = omega arith in
-      rw d
-      (splice_join l (at + i) (at + (i + 1)) (y % 256 ∷ []) (bytes_of (w - (i + 1)) (y / 256)) (store_one l (at + i) (y % 256) (omega arith)) refl (omega arith) (omega (arith, length_bytes_of (w - (i + 1)) (y / 256))))
+-- ── a number's bytes
 
-  pub put_end : w ≤ i → splice l (at + i) (bytes_of (w - i) y) ≡ l
-  unfolding bytes_of
-  put_end h = let d : w - i ≡ 0 = omega arith in rw d (splice_nil l (at + i))
+pub first_of : (w k x : ℕ) → w ≤ k → take w (bytes_of k x) ≡ bytes_of w x
+unfolding bytes_of
+first_of zero k x h = refl
+first_of (suc w) zero x h = absurd (omega arith)
+first_of (suc w) (suc k) x h = ap (λ (l : List ℕ). x % 256 ∷ l) (first_of w k (x / 256) (omega arith))
 
-module _ (w i y : ℕ) where
-  pub left_step : i < w → y / 256 / 256 ^ (w - (i + 1)) ≡ y / 256 ^ (w - i)
-  left_step h = let d : w - i ≡ suc (w - (i + 1)) = omega arith in rw (d, pow-succ' 256 (w - (i + 1))) (div-div-eq-div-mul y 256 (256 ^ (w - (i + 1))))
+bits_of : (w : ℕ) → 2 ^ (8 * w) ≡ 256 ^ w
+bits_of zero = refl
+bits_of (suc w) =
+    let more : 8 * suc w ≡ 8 * w + 8 = omega arith in
+    ap (λ (n : ℕ). 2 ^ n) more ∙ pow-add 2 (8 * w) 8 ∙ ap (λ (n : ℕ). n * 256) (bits_of w) ∙ sym (pow-suc 256 w)
 
-  pub left_end : w ≤ i → y / 256 ^ (w - i) ≡ y
-  left_end h = let d : w - i ≡ 0 = omega arith in rw d (div-one y)
+-- what is left of a number behind w of its eight bytes, none where that is all of them
+pub left_of : (w x : ℕ) (r : Option ℕ) → x < 2 ^ 64 → SomeIff r (8 * w < 64) (x / 2 ^ (8 * w)) → unwrap_or r 0 ≡ x / 256 ^ w
+left_of w x None h s =
+    let none : x / 2 ^ (8 * w) ≡ 0 = div-eq_of_lt (omega (arith, h, pow_mono {i = 64} {j = 8 * w} (omega arith))) in
+    sym none ∙ ap (λ (n : ℕ). x / n) (bits_of w)
+left_of w x (Some y) h s = s.1 ∙ ap (λ (n : ℕ). x / n) (bits_of w)
 
 -- ── a word
 
@@ -62,17 +62,17 @@ module _ (word : List ℕ) (f : Fields) {s : ℕ} (e : s ≡ sign_in word) (h : 
   field_set {k = k} a b c d =
       ap (option_and_then (λ y. with_number k y f)) (sym (value_there c d)) ∙ ap (option_and_then (λ j. option_and_then (λ y. with_number j y f) (value_of word))) (sym (field_there a b))
 
--- ── of a field that has a name, it stands within a record
+-- ── a field that has a name
 
 within : Field → Bool
 within Number = true
-within (Part at w) = leb (at + w) 96
+within (Part at w) = leb (at + w) 96 && leb w 8
 within Length = true
 
 holds_within : (k : Field) → within k ≡ true → holds k
 unfolding within
 holds_within Number h = tt
-holds_within (Part at w) h = leb-true (at + w) 96 h
+holds_within (Part at w) h = let p = both (leb (at + w) 96) (leb w 8) h in (leb-true (at + w) 96 p.0, leb-true w 8 p.1)
 holds_within Length h = tt
 
 beside_name : (b p q : Bool) (x : Field) (r : Option Field) {k : Field} → within x ≡ p → (p && q) ≡ true → (q ≡ true → r ≡ Some k → within k ≡ true) → cond b (Some x) r ≡ Some k → within k ≡ true

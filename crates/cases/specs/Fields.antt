@@ -38,10 +38,10 @@ parts =
 abbrev pub field_named : List ℕ → Option Field
 field_named name = named_in name ((codes "", Number) ∷ (parts ++ ((codes "length", Length) ∷ [])))
 
--- a field of a record stands within its bytes
+-- a field of a record stands within its bytes, and has up to eight
 abbrev pub holds : Field → Type 0
 holds Number = Unit {0}
-holds (Part at w) = at + w ≤ 96
+holds (Part at w) = (at + w ≤ 96) × (w ≤ 8)
 holds Length = Unit {0}
 
 -- ── a word: NAME=NUMBER, or a number alone

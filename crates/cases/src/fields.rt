@@ -6,6 +6,7 @@ ghost use Rattle.cases.specs.Fields.{blank, case_in, holds, with_number, with_fi
 
 use crate::numbers::number;
 use crate::words::{first, named, words};
+use octets::{Octets, put_bytes};
 
 // The number of a call that has one; a record; and how many bytes of the record are the case.
 #[derive(Clone, Copy)]
@@ -47,15 +48,11 @@ const PLACES: [(&[u8], Field); 18] = [
 
 // Writes the last bytes of x, the lowest first, and gives what is left of it.
 fn put(bytes: &mut [u8], at: usize, width: usize, x: u64) -> u64
-    requires { at + width ≤ length bytes.old }
+    requires { (at + width ≤ length bytes.old) × (width ≤ 8) }
     ensures { (result ≡ x / 256 ^ width) × (bytes.new ≡ splice bytes.old at (bytes_of width x)) }
 {
-    let mut rest = x;
-    for i in 0..width {
-        bytes[at + i] = (rest % 256) as u8;
-        rest /= 256;
-    }
-    rest
+    put_bytes(bytes, at, &x.to_octets()[..width]);
+    x.checked_shr(8 * width as u32).unwrap_or(0)
 }
 
 impl Fields {
@@ -74,7 +71,7 @@ impl Fields {
     pub fn case(&self) -> &[u8]
         ensures { result.now ≡ case_in self.now }
     {
-        &self.bytes[..(self.length as usize).min(96)]
+        &self.bytes[..usize::from(self.length).min(96)]
     }
 
     // Nothing where the number does not fit the field.
@@ -89,12 +86,7 @@ impl Fields {
                     return None;
                 }
             }
-            Field::Length => {
-                if 255 < x {
-                    return None;
-                }
-                self.length = x as u8;
-            }
+            Field::Length => self.length = u8::try_from(x).ok()?,
         }
         Some(self)
     }

@@ -5,6 +5,7 @@ ghost use Rattle.records.specs.Buffer.{written};
 ghost use Rattle.listing.specs.Listing.{listed_bytes};
 ghost use Rattle.cases.specs.Calls.{recorded_length, recorded_bytes, grown, filled, filled_length, filled_bytes};
 
+use crate::numbers::at_most;
 use crate::output::Output;
 use listing::MOST_OUTPUT;
 use octets::Octets;
@@ -23,15 +24,15 @@ fn list_by(output: &mut Output, archive: &[u8], out: &mut [u8])
         }
     };
     output.print("\n");
-    let end = written.min(out.len() as u64) as usize;
+    let end = at_most(written, out.len());
     output.write(&out[..end]);
 }
 
 // With a buffer of some size.
 pub fn list(output: &mut Output, archive: &[u8], used: u64, size: u64) {
     let mut out = [b'.'; MOST_OUTPUT];
-    let end = used.min(archive.len() as u64) as usize;
-    let n = size.min(MOST_OUTPUT as u64) as usize;
+    let end = at_most(used, archive.len());
+    let n = at_most(size, MOST_OUTPUT);
     list_by(output, &archive[..end], &mut out[..n]);
 }
 

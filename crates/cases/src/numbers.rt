@@ -1,5 +1,5 @@
 // Numbers as the command takes them: decimal digits, or hexadecimal ones behind 0x.
-ghost use Rattle.std.specs.Prelude.{◌≡◌, ◌≤◌};
+ghost use Rattle.std.specs.Prelude.{◌≡◌, ◌≤◌, min};
 ghost use Rattle.cases.specs.Numbers.{digit_of, further, value_in, number_in};
 
 // Hexadecimal digits are small letters: of `to_digit` capitals would be some too.
@@ -7,8 +7,8 @@ fn digit(b: u8) -> Option<u64>
     ensures { result ≡ digit_of b }
 {
     match b {
-        b'0'..=b'9' => Some((b - b'0') as u64),
-        b'a'..=b'f' => Some((b - b'a' + 10) as u64),
+        b'0'..=b'9' => Some(u64::from(b - b'0')),
+        b'a'..=b'f' => Some(u64::from(b - b'a' + 10)),
         _ => None,
     }
 }
@@ -47,4 +47,11 @@ pub fn number(text: &[u8]) -> Option<u64>
         Some(digits) => value_of(digits, 16),
         None => value_of(text, 10),
     }
+}
+
+// The number, or so many where it is more.
+pub fn at_most(x: u64, most: usize) -> usize
+    ensures { result ≡ min x most }
+{
+    x.min(most as u64) as usize
 }

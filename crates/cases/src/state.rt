@@ -5,6 +5,7 @@ ghost use Rattle.cases.specs.Calls.{state_after, state_by, state_on, state_of};
 
 use crate::calls::{Call, call_named, used_after};
 use crate::fields::{Fields, fields_of};
+use crate::numbers::at_most;
 use crate::output::Output;
 use crate::words::{first, lines};
 
@@ -33,7 +34,7 @@ impl State {
         if call == Call::Empty {
             self.size = fields.number;
         }
-        let n = self.size.min(self.buffer.len() as u64) as usize;
+        let n = at_most(self.size, self.buffer.len());
         let used = self.used;
         self.used = used_after(output, call, fields, &mut self.buffer[..n], used);
     }
