@@ -72,8 +72,7 @@ pub refusals_named : (b : List ℕ) → refusals b
 refusals_named b = refl
 
 -- the number of a condition is that of its refusal
-unfoldable pub named : Condition → Bool
-unfolding refusal_at
+abbrev pub named : Condition → Bool
 named c = eqb (number (refusal_at c.number)) c.number
 
 pub first_named : (cs : List Condition) → every named cs ≡ true → (first_of cs ≡ 0 → ⊥) → number (refusal_at (first_of cs)) ≡ first_of cs
