@@ -1,5 +1,5 @@
 -- An answer or a state by the refusal: `accepted_same`, `accepted_map`, `accepted_refused`; two effects that agree tell the same, `same_answer`.
--- Results: a refusal by its number, `refused_as`, `beside`; what a `?` returns, `handed_on`; where each number of a list is a refusal's, `known`: the number of the result, `refused_by`, and what is told of it, `told_as`.
+-- Results: a refusal by its number, `refused_as`, `beside`; what a `?` returns, `handed_on`; where each number of a list is a refusal's: the number of the result, `refused_by`, and what is told of it, `told_as`.
 -- What the functions of this crate say, by their effect: `of_emptying`, `of_filing_lem`, `of_showing`, `of_naming`.
 use mathlib.Core.Path.{◌≡◌, refl, sym, ap, ◌∙◌}
 use mathlib.Core.Bool.{Bool, true, false, ◌&&◌, cond}
@@ -9,11 +9,11 @@ use native.Mathlib.Omega.{arith}
 use borrow.Author.Tests.{eqb-true, eqb-false}
 use lib.Dec.{eqb}
 use Rattle.std.specs.Prelude.{Result, Ok, Err, IsErrAnd}
-use Rattle.octets.proofs.Bools.{both}
+use Rattle.octets.proofs.Bools.{every}
 use Rattle.kinds.specs.Refusal.{Condition, first_of}
 use Rattle.kinds.specs.Number.{number, refusal_at, refused}
 use Rattle.kinds.specs.declared.refusal.Refusal.{Refusal}
-use Rattle.kinds.proofs.Numbers.{refusal_of_number, number_not_zero}
+use Rattle.kinds.proofs.Numbers.{refusal_of_number, number_not_zero, named, first_named}
 use Rattle.archive.specs.Conditions.{accepted}
 use Rattle.archive.specs.Offers.{Offer}
 use Rattle.archive.specs.Answers.{Places, part, Answer, answering, shown, of_emptied, of_filing, of_highest, Effect, refusal_by, answer_by}
@@ -59,37 +59,21 @@ pub handed_on : {T : Type 0} (a : Result T Refusal) (r : Refusal) → IsErrAnd a
 handed_on (Ok x) r h = absurd h
 handed_on (Err x) r h = ap Err h
 
--- each number in a list is that of its refusal
-abbrev pub known : List Condition → Bool
-known [] = true
-known (c ∷ cs) = eqb (number (refusal_at c.number)) c.number && known cs
-
-first_known : (cs : List Condition) → known cs ≡ true → (first_of cs ≡ 0 → ⊥) → number (refusal_at (first_of cs)) ≡ first_of cs
-first_known [] k h = absurd (h refl)
-first_known (c ∷ cs) k h =
-    let p = both (eqb (number (refusal_at c.number)) c.number) (known cs) k in
-    go c.holds (eqb-true _ _ p.0) (first_known cs p.1) h
-  where
-    go : (t : Bool) → number (refusal_at c.number) ≡ c.number → ((first_of cs ≡ 0 → ⊥) → number (refusal_at (first_of cs)) ≡ first_of cs)
-        → (cond t c.number (first_of cs) ≡ 0 → ⊥) → number (refusal_at (cond t c.number (first_of cs))) ≡ cond t c.number (first_of cs)
-    go true e f h = e
-    go false e f h = f h
-
 -- a result that is x where no condition holds, and otherwise the refusal of the first: its number, and what is told of it
 abbrev pub by_first : {T : Type 0} → List Condition → T → Result T Refusal
 by_first cs x = accepted (first_of cs) (Ok x) (Err (refusal_at (first_of cs)))
 
-module _ {T : Type 0} (cs : List Condition) (k : known cs ≡ true) (x : T) where
+module _ {T : Type 0} (cs : List Condition) (k : every named cs ≡ true) (x : T) where
   pub told_as : (of : Result T Refusal → Answer) (p q : Places) → of (Ok x) ≡ answering 0 p → ((r : Refusal) → of (Err r) ≡ answering (number r) q)
       → of (by_first cs x) ≡ answering (first_of cs) (accepted (first_of cs) p q)
-  told_as of p q e f = go (first_of cs) (first_known cs k)
+  told_as of p q e f = go (first_of cs) (first_named cs k)
     where
       go : (n : ℕ) → ((n ≡ 0 → ⊥) → number (refusal_at n) ≡ n) → of (accepted n (Ok x) (Err (refusal_at n))) ≡ answering n (accepted n p q)
       go zero h = e
       go (suc n) h = f (refusal_at (suc n)) ∙ ap (λ (m : ℕ). answering m q) (h (λ z. omega (arith, z)))
 
   pub refused_by : refused (by_first cs x) ≡ first_of cs
-  refused_by = go (first_of cs) (first_known cs k)
+  refused_by = go (first_of cs) (first_named cs k)
     where
       go : (n : ℕ) → ((n ≡ 0 → ⊥) → number (refusal_at n) ≡ n) → refused (accepted n (Ok x) (Err (refusal_at n))) ≡ n
       go zero h = refl
@@ -98,11 +82,11 @@ module _ {T : Type 0} (cs : List Condition) (k : known cs ≡ true) (x : T) wher
 -- ── of the calls
 
 pub of_emptying : (b : List ℕ) → of_emptied (emptying b) ≡ empty_answer b
-unfolding empty_refusals emptying refusal_at
+unfolding empty_refusals emptying refusal_at every
 of_emptying b = told_as (empty_refusals b) refl _ of_emptied _ _ refl (λ r. refl)
 
 pub of_filing_lem : (b : List ℕ) (u : ℕ) (o : Offer) → of_filing (filing b u o) u ≡ file_answer b u o
-unfolding file_refusals filing refusal_at
+unfolding file_refusals filing refusal_at every
 of_filing_lem b u o = told_as (file_refusals b u o) refl _ (λ a. of_filing a u) _ _ refl (λ r. refl)
 
 pub of_showing : (b : List ℕ) (u k : ℕ) → shown (show_refusal b u k) (show_part b u k) ≡ answer_by (show_effect b u k)
@@ -110,5 +94,5 @@ unfolding show_part
 of_showing b u k = ap (answering (show_refusal b u k)) (accepted_map part (show_refusal b u k) _ [])
 
 pub of_naming : (b : List ℕ) (u m : ℕ) → of_highest (naming b u m) ≡ worst_answer b u m
-unfolding worst_refusals naming refusal_at
+unfolding worst_refusals naming refusal_at every
 of_naming b u m = told_as (worst_refusals b u m) refl _ of_highest _ _ refl (λ r. refl)

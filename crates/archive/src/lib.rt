@@ -31,6 +31,7 @@ fn count(archive: &[u8], used: u64) -> Result<usize, Refusal>
     records::records_in(archive, used).ok_or(Refusal::Broken)
 }
 
+#[tactic(auto, unfolding(crate::specs::Archive::empty_refusals, crate::specs::Archive::emptying, kinds::specs::Number::refusal_at))]
 pub fn empty(archive: &mut [u8]) -> Result<u64, Refusal>
     ensures { (result ≡ emptying archive.old) × (archive.new ≡ empty_bytes archive.old) × (of_emptied result ≡ empty_answer archive.old) }
 {
@@ -42,6 +43,7 @@ pub fn empty(archive: &mut [u8]) -> Result<u64, Refusal>
 }
 
 // The number that a filing of the case takes, or its refusal from the state.
+#[tactic(auto, using(records::proofs::Trailer::sound_facts, crate::proofs::Refusals::full_exactly, crate::proofs::Refusals::full_short, crate::proofs::Refusals::full_most))]
 fn next_number(archive: &[u8], used: u64, case: &[u8; 64]) -> Result<usize, Refusal>
     ensures refusal { refused result ≡ first_of (from_state archive.now used (offer case.now)) }
     ensures number { IfOk result (λ n. n ≡ count_at archive.now used) }
@@ -74,6 +76,7 @@ pub fn file(archive: &mut [u8], used: u64, case: &[u8]) -> Result<Filed, Refusal
     Ok(Filed { number, used })
 }
 
+#[tactic(auto, unfolding(crate::specs::Archive::show_refusals))]
 pub fn show_refusal(archive: &[u8], used: u64, number: u64) -> Result<(), Refusal>
     ensures { refused result ≡ show_refusal archive.now used number }
 {
@@ -85,6 +88,7 @@ pub fn show_refusal(archive: &[u8], used: u64, number: u64) -> Result<(), Refusa
 }
 
 // Lends the record of a number out of the archive, and nothing of it where there is a refusal.
+#[tactic(auto, unfolding(crate::specs::Archive::show_part), using(crate::proofs::Accepted::shown_facts))]
 pub fn show(archive: &[u8], used: u64, number: u64) -> &[u8]
     ensures { result.now ≡ show_part archive.now used number }
 {
@@ -96,6 +100,7 @@ pub fn show(archive: &[u8], used: u64, number: u64) -> &[u8]
 }
 
 // Which record is the worst in a compartment, 1 to 4 in the order of the figures.
+#[tactic(auto, unfolding(crate::specs::Archive::worst_refusals, crate::specs::Archive::naming, kinds::specs::Number::refusal_at), using(crate::proofs::Refusals::compartment_known, records::proofs::Trailer::sound_facts))]
 pub fn worst(archive: &[u8], used: u64, compartment: u64) -> Result<u64, Refusal>
     ensures { (result ≡ naming archive.now used compartment) × (of_highest result ≡ worst_answer archive.now used compartment) }
 {
@@ -108,6 +113,7 @@ pub fn worst(archive: &[u8], used: u64, compartment: u64) -> Result<u64, Refusal
 }
 
 // The four figures of a record, such as show lends; none of other bytes, such as the empty part beside a refusal.
+#[tactic(auto, unfolding(crate::specs::Archive::is_record, crate::specs::Archive::record_figures, crate::specs::Archive::told_figures))]
 pub fn figures_of(bytes: &[u8]) -> Option<[u64; 4]>
     ensures { (is_some result ≡ is_record bytes.now) × (told_figures result ≡ record_figures bytes.now) }
 {

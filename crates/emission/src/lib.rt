@@ -14,6 +14,7 @@ use equations::Emissions;
 use kinds::refusal::Refusal;
 use scenario::{Accepted, Case, Head};
 
+#[tactic(auto, using(equations::proofs::Chains::no_equation))]
 fn only_water(figure: u64) -> Emissions
     ensures { (result.water ≡ figure) × (result.air ≡ rounded_up (micrograms [])) × (result.soil ≡ rounded_up (micrograms [])) }
 {
@@ -24,6 +25,7 @@ fn only_water(figure: u64) -> Emissions
     }
 }
 
+#[tactic(auto, unfolding(equations::specs::Equations::emitted))]
 fn emissions_of(case: Case, head: Head) -> Emissions
     requires { InRange case head }
     ensures { (result.water ≡ rounded_up (micrograms (to_water case head))) × (result.air ≡ rounded_up (micrograms (to_air case head))) × (result.soil ≡ rounded_up (micrograms (to_soil case head))) }
@@ -89,6 +91,7 @@ fn by_route(route: u8, e: Emissions) -> [u64; 4]
 }
 
 // Writes the four figures of a case, or zeros beside the first refusal that holds.
+#[tactic(auto, using(crate::proofs::Accepted::accepted_is, crate::proofs::Accepted::refused_is, crate::proofs::Accepted::figures_refused, crate::proofs::Accepted::figures_accepted, crate::proofs::InRanges::in_range))]
 pub fn work_out_into(case: &[u8], figures: &mut [u64; 4]) -> Result<(), Refusal>
     ensures { (refused result ≡ refusal_of case.now) × (figures.new ≡ figures_of case.now) }
 {
@@ -106,6 +109,7 @@ pub fn work_out_into(case: &[u8], figures: &mut [u64; 4]) -> Result<(), Refusal>
 }
 
 // The same, by value.
+#[tactic(auto, using(std::proofs::lemmas::Result::err_from_is_err_and, kinds::proofs::Numbers::number_not_zero, crate::proofs::Accepted::figures_refused))]
 pub fn work_out(case: &[u8]) -> Result<[u64; 4], Refusal>
     ensures { (refused result ≡ refusal_of case.now) × (figures_in result ≡ figures_of case.now) }
 {

@@ -21,6 +21,7 @@ fn loads_of(figures: [u64; 4]) -> [u8; 32]
     loads
 }
 
+#[tactic(auto, using(archive::proofs::FiguresRead::shown_record, archive::proofs::AnswerLaws::has_number, archive::proofs::AnswerLaws::handed_on, crate::proofs::EachLoad::exported_refused, crate::proofs::EachLoad::exported_loads))]
 pub fn export(archive: &[u8], used: u64, number: u64) -> Result<[u8; 32], Refusal>
     ensures bytes { (refused result ≡ show_refusal archive.now used number) × (loads_in result ≡ export_bytes archive.now used number) }
     ensures within { refused result ≡ 0 → EachWithin archive.now number (loads_in result) }

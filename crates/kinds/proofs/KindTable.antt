@@ -1,6 +1,5 @@
 -- Laws of the table of kinds: `no_kind_lem` (what is none of them), `each_kind` (what holds of each), `tested` (one computed test of all, by their numbers),
--- `not_summed` (of which nothing is summed). Of any table that is numbered from 1: `beyond` (what is none of its entries). Of ranges: `inside`, and of
--- std's `contains`: `in_range`.
+-- `not_summed` (of which nothing is summed). Of any table that is numbered from 1: `beyond` (what is none of its entries). Of ranges: `inside`.
 -- Laws of limits are in `Limits`, of usages in `UsageTable`.
 use mathlib.Core.Path.{◌≡◌, refl}
 use mathlib.Core.Bool.{Bool, true, false, ◌&&◌, ◌||◌}
@@ -24,13 +23,6 @@ inside r n = (
   λ h. let p = both (leb r.from n) (leb n r.to) h in (leb-true r.from n p.0, leb-true n r.to p.1),
   λ h. rw (le-leb r.from n h.0, le-leb n r.to h.1),
 )
-
-at_most : (m n : ℕ) → is_le (nat_cmp m n) ≡ leb m n
-at_most m n = search (rules, decided)
-
-pub in_range : (s : RangeInclusive ℕ) (x : ℕ) {m n : ℕ} {r : Bool} → range_inclusive_start s ≡ m → range_inclusive_end s ≡ n → range_inclusive_exhausted s ≡ false
-    → r ≡ range_inclusive_contains (λ a b. Some (nat_cmp a b)) s x → r ≡ within (m to n) x
-in_range s x {m} {n} low high fresh told = rw (told, low, high, fresh, at_most m x, at_most x n)
 
 -- ── kinds by their numbers
 

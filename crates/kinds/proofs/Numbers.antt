@@ -71,11 +71,11 @@ pub refusals_named : (b : List ℕ) → refusals b
     ∷ []
 refusals_named b = refl
 
-named : Condition → Bool
-unfolding refusal_at
+-- the number of a condition is that of its refusal
+abbrev pub named : Condition → Bool
 named c = eqb (number (refusal_at c.number)) c.number
 
-first_named : (cs : List Condition) → every named cs ≡ true → (first_of cs ≡ 0 → ⊥) → number (refusal_at (first_of cs)) ≡ first_of cs
+pub first_named : (cs : List Condition) → every named cs ≡ true → (first_of cs ≡ 0 → ⊥) → number (refusal_at (first_of cs)) ≡ first_of cs
 unfolding every named
 first_named [] e h = absurd (h refl)
 first_named (c ∷ cs) e h =

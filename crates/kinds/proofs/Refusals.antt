@@ -1,7 +1,7 @@
 -- Laws of the first refusal that holds.
 -- Of any list of conditions: `first_of_is_first`, `first_is_first_of`, `first_of_append`, `first_of_some`, `first_of_none` (one list after another),
 -- `none_holds` (where the first is 0).
--- Of a case: `refusal_order`, `refusal_numbers`, `refusal_of_length`, `numbers_accepted`.
+-- Of a case: `refusal_order`, `refusal_numbers`, `refusal_of_length`.
 -- What a case without refusal satisfies is in `Ranges`.
 use mathlib.Core.Path.{◌≡◌, refl, subst}
 use mathlib.Core.Bool.{Bool, true, false, not, cond}
@@ -71,7 +71,3 @@ refusal_numbers b = refl
 pub refusal_of_length : (b : List ℕ) → (length b ≡ 64 → ⊥) → refusal_of b ≡ 1
 unfolding refusal_of not_sixty_four
 refusal_of_length b h = rw (ne_eqb (length b) 64 h)
-
-pub numbers_accepted : (b : List ℕ) → refusal_of b ≡ 0 → any_not_number (pattern_at b) ≡ false
-unfolding refusal_of
-numbers_accepted b e = none_holds (refusals b) refl e 8

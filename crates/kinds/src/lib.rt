@@ -11,6 +11,7 @@ use polymers::usage_of;
 pub mod polymers;
 pub mod refusal;
 
+#[tactic(auto, unfolding(crate::specs::Case::kind_unknown))]
 pub fn kind_unknown(kind: u8) -> bool
     ensures { result ≡ kind_unknown kind }
 {
@@ -18,6 +19,7 @@ pub fn kind_unknown(kind: u8) -> bool
 }
 
 // Route 2, the rain sewer, is for the uses outdoors of a city.
+#[tactic(auto, unfolding(crate::specs::Case::route_not_allowed))]
 pub fn route_not_allowed(kind: u8, row: u8, route: u8) -> bool
     ensures { result ≡ route_not_allowed kind row route }
 {
@@ -60,6 +62,7 @@ impl Bounds {
 }
 
 // What is no kind allows nothing.
+#[tactic(auto, unfolding(crate::specs::Case::kind_at, crate::specs::Case::kinds, crate::specs::Patterns::bounds_of))]
 fn bounds_of(kind: u8) -> Bounds
     ensures { result ≡ bounds_of (kind_at kind) }
 {
@@ -76,12 +79,14 @@ fn bounds_of(kind: u8) -> Bounds
     }
 }
 
+#[tactic(auto, unfolding(crate::specs::Case::row_unknown, crate::specs::Patterns::bounds_of))]
 pub fn row_unknown(kind: u8, row: u8) -> bool
     ensures { result ≡ row_unknown kind row }
 {
     !bounds_of(kind).rows.contains(u32::from(row))
 }
 
+#[tactic(auto, unfolding(crate::specs::Case::user_not_allowed, crate::specs::Patterns::bounds_of))]
 pub fn user_not_allowed(kind: u8, user: u8) -> bool
     ensures { result ≡ user_not_allowed kind user }
 {
@@ -89,12 +94,14 @@ pub fn user_not_allowed(kind: u8, user: u8) -> bool
 }
 
 // Kind 8: the polymer has no usage for the process.
+#[tactic(auto, unfolding(crate::specs::Case::usage_missing))]
 pub fn usage_missing(kind: u8, row: u8, user: u8) -> bool
     ensures { result ≡ usage_missing kind row user }
 {
     kind == 8 && usage_of(row, user).is_none()
 }
 
+#[tactic(auto, unfolding(crate::specs::Case::count_not_allowed, crate::specs::Patterns::bounds_of))]
 pub fn count_not_allowed(kind: u8, row: u8, t: u32) -> bool
     ensures { result ≡ count_not_allowed kind row t }
 {
@@ -160,6 +167,7 @@ fn limits_at(kind: u8) -> [[u64; 6]; 2]
     }
 }
 
+#[tactic(auto, unfolding(crate::specs::Patterns::limits_of))]
 pub fn limits_of(kind: u8, row: u8) -> [u64; 6]
     ensures { result ≡ limit_patterns (eqb row 0) (kind_at kind).quantities }
 {

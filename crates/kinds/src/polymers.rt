@@ -3,6 +3,7 @@ ghost use Rattle.std.specs.Prelude.{◌≡◌};
 ghost use Rattle.kinds.specs.Polymers.{usages_of, usage_at};
 
 // Of a polymer, in tonnes per year: open, partially open, closed. What is no polymer has none.
+#[tactic(auto, unfolding(crate::specs::Polymers::usages_of, crate::specs::Polymers::polymers))]
 fn usages_of(row: u8) -> [Option<u32>; 3]
     ensures { result ≡ usages_of row }
 {
@@ -30,6 +31,7 @@ fn usages_of(row: u8) -> [Option<u32>; 3]
 }
 
 // Of a polymer by a process.
+#[tactic(auto, unfolding(crate::specs::Polymers::usage_at))]
 pub fn usage_of(row: u8, user: u8) -> Option<u32>
     ensures { result ≡ usage_at row user }
 {
