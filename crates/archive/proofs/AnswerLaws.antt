@@ -2,12 +2,11 @@
 -- Results: a refusal by its number, `refused_as`, `beside`; what a `?` returns, `handed_on`; where each number of a list is a refusal's: the number of the result, `refused_by`, and what is told of it, `told_as`.
 -- What the functions of this crate say, by their effect: `of_emptying`, `of_filing_lem`, `of_showing`, `of_naming`.
 use mathlib.Core.Path.{◌≡◌, refl, sym, ap, ◌∙◌}
-use mathlib.Core.Bool.{Bool, true, false, ◌&&◌, cond}
-use mathlib.Core.List.{List, [], ◌∷◌}
+use mathlib.Core.Bool.{true}
+use mathlib.Core.List.{List, []}
 use Prim.Native.Nat.{ℕ, zero, suc}
 use native.Mathlib.Omega.{arith}
-use borrow.Author.Tests.{eqb-true, eqb-false}
-use lib.Dec.{eqb}
+use borrow.Author.Tests.{eqb-false}
 use Rattle.std.specs.Prelude.{Result, Ok, Err, IsErrAnd}
 use Rattle.octets.proofs.Bools.{every}
 use Rattle.kinds.specs.Refusal.{Condition, first_of}

@@ -10,11 +10,7 @@ use native.Mathlib.Omega.{arith}
 use lib.Dec.{leb, eqb}
 use lib.ListN.{length, get_or, get_or-eq_default}
 use borrow.Author.Tests.{leb-true, le-leb, eqb-true, eqb-false, ne_eqb}
-use Rattle.std.proofs.Common.{Some, rules, tests as decided}
-use Rattle.std.specs.declared.ops.RangeInclusive.{RangeInclusive}
-use Rattle.std.specs.Ordering.{nat_cmp, is_le}
-use Rattle.std.specs.Range.{range_inclusive_start, range_inclusive_end, range_inclusive_exhausted, range_inclusive_contains}
-use Rattle.kinds.specs.Case.{Range, ◌to◌, within, Kind, kinds, no_kind, kind_at}
+use Rattle.kinds.specs.Case.{Range, within, Kind, kinds, no_kind, kind_at}
 use Rattle.kinds.specs.Ranges.{Between, IsKind}
 use Rattle.octets.proofs.Bools.{both}
 

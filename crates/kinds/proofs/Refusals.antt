@@ -11,7 +11,7 @@ use lib.Dec.{eqb}
 use lib.ListN.{length, get_or}
 use borrow.Author.Tests.{ne_eqb, eqb-false, not-true}
 use Rattle.kinds.specs.Refusal.{Condition, ◌when◌, first_of, IsFirst, none, here, later, numbered}
-use Rattle.kinds.specs.Case.{pattern_at, not_sixty_four, any_not_number, refusals, refusal_of}
+use Rattle.kinds.specs.Case.{not_sixty_four, refusals, refusal_of}
 use Rattle.octets.proofs.Bools.{both}
 
 pub first_of_is_first : (cs : List Condition) → IsFirst cs (first_of cs)

@@ -6,11 +6,11 @@
 -- Which of its cells hold a usage, in plain numbers, is in `FieldRanges`.
 use mathlib.Core.Path.{◌≡◌, refl}
 use mathlib.Core.Bool.{Bool, true}
-use mathlib.Core.List.{List, [], ◌∷◌, map}
+use mathlib.Core.List.{[], ◌∷◌, map}
 use Prim.Native.Nat.{ℕ, ◌≤◌}
-use lib.Dec.{leb, eqb}
+use lib.Dec.{leb}
 use lib.ListN.{length}
-use borrow.Author.Tests.{leb-true, eqb-true}
+use borrow.Author.Tests.{leb-true}
 use Rattle.octets.proofs.Bools.{every, every_at}
 use Rattle.kinds.specs.Polymers.{polymers, no_polymer, usages_of, usage_at, polymer_rows, column, usage_count, tonnes_in_all}
 use Rattle.std.proofs.Common.{Option, Some, None}
