@@ -10,6 +10,7 @@ use borrow.Author.Tests.{le-ltb}
 use denote.MutBor.{MutBor}
 use denote.Ref.{Bor}
 use lib.ListN.{length}
+use Rattle.octets.proofs.Bools.{every}
 use Rattle.kinds.specs.Number.{refusal_at}
 use Rattle.kinds.specs.Case.{refusals, refusal_of}
 use Rattle.emission.specs.Figures.{figures_of, figures_in}
@@ -84,7 +85,7 @@ figures_worked c = go (refusal_of c) refl
 
 module _ (κ : Lft) where
   direct_turn : (c : Request) → FedBy WorkedOut c → (b : List ℕ) (u : ℕ) → TurnBy direct c b u (told c b u) (left c b u)
-  unfolding lent lent_to_write show_refusals refusal_at
+  unfolding lent lent_to_write show_refusals refusal_at every
   direct_turn empty d b u = made direct_lawful (empties (record { κs = (κ, tt); args = (lent_to_write b, tt); result = emptying b; last = (empty_bytes b, tt); kept = (refl, refl, of_emptying b) })) u [] refl d
   direct_turn (file o f) d b u =
       made direct_lawful
@@ -98,7 +99,7 @@ module _ (κ : Lft) where
       made direct_lawful (names (record { κs = (κ, tt); args = (lent b, (u, (m, tt))); result = naming b u m; last = (tt, (tt, (tt, tt))); kept = (refl, of_naming b u m) })) u [] refl d
 
   pub direct_can : Can direct
-  unfolding lent refusal_of refusal_at
+  unfolding lent refusal_of refusal_at every
   direct_can = record {
     turn = direct_turn;
     work_out = λ c f e. record {
