@@ -1,5 +1,4 @@
 -- Laws of bytes stored one at a time.
---   store_one                     one byte, as a splice
 --   digit_stored, all_stored      a number in some bytes, its last digit first: one more of them, and the first
 -- Splices behind one another are in `Splice` of octets.
 use mathlib.Core.Path.{◌≡◌, refl, sym, ◌∙◌}
@@ -7,15 +6,10 @@ use mathlib.Core.List.{List, [], ◌∷◌, ◌++◌, append_assoc}
 use Prim.Native.Nat.{ℕ, ◌+◌, ◌-◌, ◌/◌, ◌%◌, ◌≤◌, ◌<◌}
 use native.Mathlib.Omega.{arith}
 use lib.ListN.{length, take, drop, set, length-set, length-drop}
-use lib.Seq.{sets-eq, take_all}
+use lib.Seq.{take_all}
 use Rattle.std.proofs.lemmas.List.{drop-set}
-use Rattle.octets.specs.Bytes.{splice}
 use Rattle.listing.specs.Decimal.{character, decimal}
 use Rattle.listing.proofs.DecimalText.{decimal_last, decimal_more}
-
-pub store_one : (l : List ℕ) (at x : ℕ) → at < length l → set l at x ≡ splice l at (x ∷ [])
-unfolding splice
-store_one l at x h = sets-eq (x ∷ []) l at (omega arith)
 
 -- ── a number of which the digits of x are left, before the others that stand from place p on
 
