@@ -1,14 +1,14 @@
 -- Laws of numbers in bytes, each over the width.
 -- Bytes to a number: `number_of_halves`, `number_at_halves`, `number_at_one`, `number_of_small`, `number_at_small`.
--- A number to bytes: `length_bytes_of`.
+-- A number to bytes: `length_bytes_of`, `bytes_of_low`, `bytes_of_halves`.
 -- There and back: `number_of_bytes_of`, `bytes_of_number_at`.
 -- Writes in a list of bytes are in `Splice`.
 use mathlib.Core.Path.{◌≡◌, refl, ap, ◌∙◌}
-use mathlib.Core.List.{List, [], ◌∷◌}
+use mathlib.Core.List.{List, [], ◌∷◌, ◌++◌}
 use Prim.Native.Nat.{ℕ, zero, suc, ◌+◌, ◌*◌, ◌/◌, ◌%◌, ◌^◌, ◌≤◌, ◌<◌}
-use native.Mathlib.Nat.{zero-add, suc-add, one-mul, pow-zero, pow-suc, one-le-pow, mod-one}
+use native.Mathlib.Nat.{zero-add, suc-add, one-mul, pow-zero, pow-suc, pow-succ', one-le-pow, mod-one, div-one, div-div-eq-div-mul}
 use native.Mathlib.Omega.{arith}
-use lib.Arith.{mod-mul}
+use lib.Arith.{digits_div, digits_mod, mod-mul}
 use lib.Dec.{lit≤, lit<}
 use lib.ListN.{length, take, drop, get_or, length-drop}
 use lib.Seq.{get_or-drop, drop-drop, take-nil, drop-nil}
@@ -59,11 +59,32 @@ unfolding bytes_of
 length_bytes_of zero x = refl
 length_bytes_of (suc w) x = ap suc (length_bytes_of w (x / 256))
 
--- ── there and back
-
 -- a number's digits in base 256, without those from suc w on
 low_digits : (w x : ℕ) → x % 256 ^ suc w ≡ x / 256 % 256 ^ w * 256 + x % 256
 low_digits w x = rw (pow-suc 256 w) (mod-mul x {m = 256 ^ w} {c = 256} (power_pos w) (lit< tt))
+
+low_rest : (w x : ℕ) → x % 256 ^ suc w / 256 ≡ x / 256 % 256 ^ w
+low_rest w x = rw (low_digits w x) (digits_div (x / 256 % 256 ^ w) {m = 256} {r = x % 256} (omega arith))
+
+low_first : (w x : ℕ) → x % 256 ^ suc w % 256 ≡ x % 256
+low_first w x = rw (low_digits w x) (digits_mod (x / 256 % 256 ^ w) {m = 256} {r = x % 256} (omega arith))
+
+-- the w low bytes are those of the low part
+pub bytes_of_low : (w x : ℕ) → bytes_of w (x % 256 ^ w) ≡ bytes_of w x
+unfolding bytes_of
+bytes_of_low zero x = refl
+bytes_of_low (suc w) x = rw (low_first, low_rest) (ap (λ (l : List ℕ). x % 256 ∷ l) (bytes_of_low w (x / 256)))
+
+above : (v w x : ℕ) → bytes_of (w + v) x ≡ bytes_of w x ++ bytes_of v (x / 256 ^ w)
+unfolding bytes_of
+above v zero x = rw (zero-add, pow-zero, div-one)
+above v (suc w) x = rw (suc-add, pow-succ', ← div-div-eq-div-mul x 256 (256 ^ w)) (ap (λ (l : List ℕ). x % 256 ∷ l) (above v w (x / 256)))
+
+-- the first w bytes, and the v behind them
+pub bytes_of_halves : (w v x : ℕ) → bytes_of (w + v) x ≡ bytes_of w (x % 256 ^ w) ++ bytes_of v (x / 256 ^ w)
+bytes_of_halves w v x = rw bytes_of_low (above v w x)
+
+-- ── there and back
 
 pub number_of_bytes_of : (w x : ℕ) → number_of (bytes_of w x) ≡ x % 256 ^ w
 unfolding number_of bytes_of

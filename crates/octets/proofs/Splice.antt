@@ -1,16 +1,17 @@
 -- Laws of `splice`, the one form in which a write is stated: `splice_nil`, `length_splice`, `splice_splice`, `splice_join`,
 -- `splice_read` (what was written is read back), `splice_before`, `splice_behind` (all other places are as they were),
--- `part_written` (a part of a slice written whole).
+-- `part_written` (a part of a slice written whole), `put_halves` (a number written by halves).
 -- Laws of the bytes themselves are in `Numbers`.
 use mathlib.Core.Path.{◌≡◌, sym, ap, ◌∙◌}
 use mathlib.Core.List.{List, [], ◌∷◌, ◌++◌, append_assoc, append-nil}
-use Prim.Native.Nat.{ℕ, suc, ◌+◌, ◌-◌, ◌≤◌, ◌<◌}
+use Prim.Native.Nat.{ℕ, suc, ◌+◌, ◌-◌, ◌/◌, ◌%◌, ◌^◌, ◌≤◌, ◌<◌}
 use native.Mathlib.Nat.{add-zero, add-suc, suc-add}
 use native.Mathlib.Omega.{arith}
 use lib.ListN.{length, take, drop, get_or, set, length-append, take-append-drop, get_or-append}
 use lib.Seq.{sets, sets-eq, length-sets, length-take-le, take-append_seam, drop_at, get_or-append-add, get_or-take, get_or-drop}
 use borrow.Rule.Slice.PartMut.{put_mid, post_of, Post-is}
-use Rattle.octets.specs.Bytes.{splice}
+use Rattle.octets.specs.Bytes.{bytes_of, splice}
+use Rattle.octets.proofs.Numbers.{length_bytes_of, bytes_of_halves}
 
 -- `splice` is the library's `sets`, a store for each place
 as_stores : (l : List ℕ) (at : ℕ) (vs : List ℕ) → at + length vs ≤ length l → sets l at vs ≡ splice l at vs
@@ -71,3 +72,13 @@ unfolding splice
 part_written l at n {vs} e h =
     let rest : post_of at (at + n - at) l ≡ drop (at + length vs) l = Post-is at (at + n) l (omega arith) ∙ ap (λ (m : ℕ). drop (at + m) l) h in
     (λ i. take at l ++ (e i ++ rest i)) ∙ sym (append_assoc (take at l) vs _)
+
+-- the low w bytes of a number, and behind them the v above
+pub put_halves : (a : List ℕ) {b c : List ℕ} (at w v x : ℕ) → at + (w + v) ≤ length a → b ≡ splice a at (bytes_of w (x % 256 ^ w)) → c ≡ splice b (at + w) (bytes_of v (x / 256 ^ w))
+    → c ≡ splice a at (bytes_of (w + v) x)
+put_halves a at w v x h e f =
+    let low = bytes_of w (x % 256 ^ w) in
+    let high = bytes_of v (x / 256 ^ w) in
+    let p : length low ≡ w = length_bytes_of w (x % 256 ^ w) in
+    let q : length high ≡ v = length_bytes_of v (x / 256 ^ w) in
+    rw (bytes_of_halves w v x) (splice_join a at (at + w) low high e f (rw p) (rw (p, q) h))
