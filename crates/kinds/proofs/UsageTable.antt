@@ -1,4 +1,4 @@
--- Laws of the table of usages: `no_polymer_lem` (what is none of its rows); `usage_small`. What holds of every cell is one
+-- Laws of the table of usages: `no_polymer_lem`, `no_process` (what is none of its rows, none of its columns); `usage_small`. What holds of every cell is one
 -- computed test over the whole table.
 -- `table_whole`: what `usage_of` gives by its contract for the 18 polymers and three processes is the printed table, all 54 cells. `column_sums`, `row_sums`:
 -- how many usages each process has, and the tonnes of each process and polymer, by pencil, so that a number which is wrong in table and program alike is
@@ -6,11 +6,11 @@
 -- Which of its cells hold a usage, in plain numbers, is in `FieldRanges`.
 use mathlib.Core.Path.{◌≡◌, refl}
 use mathlib.Core.Bool.{Bool, true}
-use mathlib.Core.List.{[], ◌∷◌, map}
+use mathlib.Core.List.{List, [], ◌∷◌, map}
 use Prim.Native.Nat.{ℕ, ◌≤◌}
-use lib.Dec.{leb}
+use lib.Dec.{leb, eqb}
 use lib.ListN.{length}
-use borrow.Author.Tests.{leb-true}
+use borrow.Author.Tests.{leb-true, eqb-true}
 use Rattle.octets.proofs.Bools.{every, every_at}
 use Rattle.kinds.specs.Polymers.{polymers, no_polymer, usages_of, usage_at, polymer_rows, column, usage_count, tonnes_in_all}
 use Rattle.std.proofs.Common.{Option, Some, None}
@@ -19,6 +19,14 @@ use Rattle.kinds.proofs.KindTable.{OtherThan, beyond}
 pub no_polymer_lem : (row : ℕ) → OtherThan (length polymers) row → usages_of row ≡ no_polymer
 unfolding usages_of
 no_polymer_lem = beyond no_polymer polymers
+
+processes : (row : ℕ) → length (usages_of row) ≡ 3
+unfolding every usages_of polymers
+processes row = eqb-true (length (usages_of row)) 3 (every_at (λ (l : List (Option ℕ)). eqb (length l) 3) (no_polymer ∷ polymers) no_polymer refl refl row)
+
+pub no_process : (row user : ℕ) → OtherThan 3 user → usage_at row user ≡ None
+unfolding usage_at
+no_process row user o = beyond None (usages_of row) user (rw (processes row) o)
 
 abbrev pub most_used : ℕ
 most_used = 23100

@@ -53,7 +53,7 @@ pub carried_again : {l l₀ : List ℕ} {m i t : ℕ} (c x q y t' : ℕ) → Car
     → Carried (set l i x) l₀ m (i + 1) q t'
 carried_again {i = i} c x q y t' v h e f = again x (4294967296 * q) (y + c) (q * 2 ^ (32 * (i + 1))) t' v h e (omega (arith, weight_next q i))
 
-borrowed_again : {l l₀ : List ℕ} {i s : ℕ} (b x q y s' : ℕ) → Borrowed l l₀ i b s → i < length l → x + y + b ≡ get_or l i 0 + 4294967296 * q → s' ≡ s + y * 2 ^ (32 * i)
+pub borrowed_again : {l l₀ : List ℕ} {i s : ℕ} (b x q y s' : ℕ) → Borrowed l l₀ i b s → i < length l → x + y + b ≡ get_or l i 0 + 4294967296 * q → s' ≡ s + y * 2 ^ (32 * i)
     → Borrowed (set l i x) l₀ (i + 1) q s'
 borrowed_again {i = i} b x q y s' v h e f = again x (y + b) (4294967296 * q) s' (q * 2 ^ (32 * (i + 1))) v h (omega arith) (omega (arith, weight_next q i))
 
@@ -63,10 +63,10 @@ whole {l} {l₀} {m} {i} {s} {t} v h =
     let e : i ≡ length l₀ = omega arith in
     (e, rw (take_all i l h, take_all i l₀ (omega arith)) at v.sum)
 
-carried_end : {l l₀ : List ℕ} {m i t : ℕ} (c : ℕ) → Carried l l₀ m i c t → length l ≤ i → value l + c * 2 ^ (32 * length l₀) ≡ value l₀ * m + t
+pub carried_end : {l l₀ : List ℕ} {m i t : ℕ} (c : ℕ) → Carried l l₀ m i c t → length l ≤ i → value l + c * 2 ^ (32 * length l₀) ≡ value l₀ * m + t
 carried_end {l} {l₀} c v h = let e = whole v h in rw e.0 at e.1
 
-borrowed_end : {l l₀ : List ℕ} {i s : ℕ} (b : ℕ) → Borrowed l l₀ i b s → length l ≤ i → value l + s ≡ value l₀ + b * 2 ^ (32 * length l₀)
+pub borrowed_end : {l l₀ : List ℕ} {i s : ℕ} (b : ℕ) → Borrowed l l₀ i b s → length l ≤ i → value l + s ≡ value l₀ + b * 2 ^ (32 * length l₀)
 borrowed_end b v h = let e = whole v h in let f = rw e.0 at e.1 in omega arith
 
 -- a number t is added to the limbs below i, with a carry c into limb i, or it is taken away from them, with a borrow
