@@ -1,5 +1,5 @@
 -- The search for the worst of n records, each as long as the width w, in a buffer b.
--- A compartment's number is one of four: `one_of_four`. The figure of record k: `figure_in`, `figure_read`. From one record to the next that outranks it: `scan_start`, `scan_next`; where there is none: `scan_end`.
+-- A compartment's number is one of four: `one_of_four`. The figure of record k: `figure_in`, `figure_read`, among n of them `figure_at_lem`. From one record to the next that outranks it: `scan_start`, `scan_next`; where there is none: `scan_end`.
 use mathlib.Core.Path.{◌≡◌, refl, ap, ◌∙◌}
 use mathlib.Core.Bool.{true, false}
 use mathlib.Core.List.{List}
@@ -74,3 +74,7 @@ module _ (w m : ℕ) (b : List ℕ) where
   pub scan_end : (n : ℕ) {k : ℕ} → Best k → NoneBetween k n → k < n → k ≡ worst_of m (first_lines w n b)
   unfolding worst_of
   scan_end n s none h = rw (length_first_lines w n b) (worst_unique (as_lines (worst_still s (omega arith) none)) (worst_is (by_figures (figure_of m (first_lines w n b))) n (omega arith)))
+
+-- the figure of record k, of the lines of n records
+pub figure_at_lem : (w n m k : ℕ) (b : List ℕ) → figures_end ≤ w → 1 ≤ m → m ≤ 4 → k < n → figure_of m (first_lines w n b) k ≡ number_at b (w * k + (56 + 8 * m)) 8
+figure_at_lem w n m k b d p q h = ap (figure m) (line_at w n k b h) ∙ figure_read w m b k d p q

@@ -80,7 +80,9 @@ pub fn put_trailer(b: &mut [u8], at: usize, n: usize)
     EDITION.put(b, at + 12);
 }
 
-// Writes a record behind the n records that are there, and the trailer behind it.
+// Writes a record behind the n records that are there, and the trailer behind it. Put in place where it is called: a case that the caller made
+// is then known to lie apart from the archive, and is not copied byte by byte.
+#[inline(always)]
 pub fn put_line(b: &mut [u8], n: usize, case: &[u8; 64], figures: [u64; 4])
     requires { (used_length record_size (n + 1) ≤ length b.old) × (n < most_records) }
     ensures { b.new ≡ written b.old n (record { case = case.entry.now; figures = figures }) }

@@ -1,4 +1,4 @@
-// Searches over the records. Each record is touched once, with one load for each field that is compared.
+// Searches over the records. Each record is touched once, with one load for each field that is compared; the worst so far once more.
 ghost use Rattle.std.specs.Prelude.{◌≡◌, ◌+◌, ◌*◌, ◌≤◌, length};
 ghost use Rattle.records.specs.Layout.{first_lines, line_of, record_at, figures_end, record_size};
 ghost use Rattle.records.specs.Compartments.{compartment_number};
