@@ -1,6 +1,7 @@
 -- Laws of a number's text.
 --   decimal_last, decimal_more                   by one division
 --   decimal_some, decimal_at_most                bounds on its length
+--   one_digit, more_digits                       whether there is a digit to divide off
 use mathlib.Core.Path.{◌≡◌, refl}
 use mathlib.Core.Bool.{Bool, true, false}
 use mathlib.Core.List.{[], ◌∷◌, ◌++◌, map-append}
@@ -28,6 +29,12 @@ length_more n h = rw (decimal_more n h) (length-append (decimal (n / 10)) (chara
 pub decimal_some : (n : ℕ) → 1 ≤ length (decimal n)
 unfolding decimal
 decimal_some n = rw length-map (some n (digits n) (digits_are n))
+
+pub one_digit : (n : ℕ) → length (decimal n) ≤ 1 → n < 10
+one_digit n h = grind (arith, length_more, decimal_some)
+
+pub more_digits : (n : ℕ) → 2 ≤ length (decimal n) → 10 ≤ n
+more_digits n h = grind (arith, decimal_last)
 
 -- a number below 10 ^ (k + 1) has at most k + 1 digits
 at_most_by : (k n : ℕ) (p : Bool) → ltb n 10 ≡ p → ((10 ≤ n) → length (decimal (n / 10)) ≤ k) → length (decimal n) ≤ suc k

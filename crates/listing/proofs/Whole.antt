@@ -57,11 +57,11 @@ pub listing_accepted : (b : List ℕ) → refused b ≡ false → listing_of b �
 unfolding listing_of
 listing_accepted b e = rw e
 
-length_refused : (b : List ℕ) → refused b ≡ true → length (listing_of b) ≡ 11
+pub length_refused : (b : List ℕ) → refused b ≡ true → length (listing_of b) ≡ 11
 unfolding refusal codes
 length_refused b e = ap length (listing_refused b e)
 
-length_accepted : (b : List ℕ) → refused b ≡ false → length (listing_of b) ≡ 46 + length (lines_text 0 (lines_in b (length b)))
+pub length_accepted : (b : List ℕ) → refused b ≡ false → length (listing_of b) ≡ 46 + length (lines_text 0 (lines_in b (length b)))
 length_accepted b e = rw (listing_accepted b e, length-append header (lines_text 0 (lines_in b (length b))), length_header) refl
 
 -- of the records that whole parts of the archive are

@@ -4,7 +4,6 @@ ghost use Rattle.records.specs.Layout.{line_of, figures_end};
 ghost use Rattle.listing.specs.Listing.{columns_of, columns_text, line_text, lines_text};
 ghost use Rattle.listing.specs.Listing.{milligrams as Listing·milligrams};
 
-use crate::decimal::put_decimal;
 use crate::sink::Sink;
 use octets::Octets;
 use records::figures_at;
@@ -40,7 +39,7 @@ fn put_columns<S: Sink>(to: &mut S, columns: &[u64])
 {
     for column in columns {
         to.put(b" ");
-        put_decimal(to, *column);
+        to.put_decimal(*column);
     }
     to.put(b"\n");
 }
@@ -51,7 +50,7 @@ fn put_line<S: Sink>(to: &mut S, number: usize, bytes: &[u8])
     requires room { S.takes to.old (length (line_text number (line_of bytes.now))) }
     ensures { to.new ≡ S.after to.old (line_text number (line_of bytes.now)) }
 {
-    put_decimal(to, number as u64);
+    to.put_decimal(number as u64);
     put_columns(to, &columns_of(bytes));
 }
 

@@ -1,8 +1,10 @@
 // Where a listing goes: its bytes are counted, or written into a lent buffer.
 ghost use Rattle.std.specs.Prelude.{◌≡◌, List, ℕ, length};
+ghost use Rattle.listing.specs.Decimal.{decimal};
 ghost use Rattle.listing.specs.Sink.{SinkLaws, counted, count_takes, written, buffer_takes};
 ghost use Rattle.listing.specs.SinkLaws.{count_laws, buffer_laws};
 
+use crate::decimal::{decimal_length, put_decimal};
 use octets::put_bytes;
 
 pub trait Sink {
@@ -16,6 +18,11 @@ pub trait Sink {
     fn put(&mut self, bytes: &[u8])
         requires { takes self.old (length bytes.now) }
         ensures { self.new ≡ after self.old bytes.now };
+
+    // Puts a number: its digits are counted, or written in their place, and never copied.
+    fn put_decimal(&mut self, x: u64)
+        requires { takes self.old (length (decimal x)) }
+        ensures { self.new ≡ after self.old (decimal x) };
 
     // What each sink must prove.
     ghost laws: { SinkLaws after takes };
@@ -40,6 +47,13 @@ impl Sink for Count {
     {
         self.bytes += bytes.len();
     }
+
+    fn put_decimal(&mut self, x: u64)
+        requires { count_takes self.old (length (decimal x)) }
+        ensures { self.new ≡ counted self.old (decimal x) }
+    {
+        self.bytes += decimal_length(x);
+    }
 }
 
 // A lent buffer, and the place in it behind what is written.
@@ -62,5 +76,12 @@ impl<'a> Sink for Buffer<'a> {
     {
         put_bytes(self.out, self.at, bytes);
         self.at += bytes.len();
+    }
+
+    fn put_decimal(&mut self, x: u64)
+        requires { buffer_takes self.old (length (decimal x)) }
+        ensures { self.new ≡ written self.old (decimal x) }
+    {
+        self.at = put_decimal(self.out, self.at, x);
     }
 }

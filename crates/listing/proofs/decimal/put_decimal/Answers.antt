@@ -1,36 +1,38 @@
--- The invariant: the digits of what is left, and those that stand from the place on, are the digits of x.
-use mathlib.Core.Path.{sym, ap, ◌∙◌}
-use mathlib.Core.List.{append-nil}
+-- The invariant: the digits that are left, over the bytes as they are, make the number that is asked.
+use mathlib.Core.Path.{ap, ◌∙◌}
+use Prim.Native.Nat.{◌+◌, ◌-◌}
 use native.Mathlib.Omega.{arith}
-use borrow.Author.Rules.{rules}
-use lib.ListN.{length, drop, length-append, length-drop, length-set}
-use Rattle.listing.specs.Decimal.{decimal}
-use Rattle.listing.proofs.DecimalText.{decimal_some, decimal_at_most}
-use Rattle.listing.proofs.Stores.{digit_stored, all_stored}
-use Rattle.listing.proofs.Sinks.{all_left, last_fits, all_put}
+use lib.ListN.{length, length-set}
+use Rattle.listing.proofs.DecimalText.{decimal_last, length_more, decimal_some, one_digit, more_digits}
+use Rattle.listing.proofs.Stores.{digit_stored, first_stored}
 use Rattle.listing.proofs.decimal.put_decimal.Goals as goal
 
-pub loop-place-init : goal.loop-place-init
-loop-place-init g c = (all_left g.met.S.Sink.laws _ _ c.requires, search rules, append-nil (decimal c.args.x))
-
-pub put-requires : goal.put-requires
-put-requires g c =
-    let l = c.loop-place in
-    let e = all_stored l.digits l.place l.rest 20 (omega arith) (omega arith) (omega arith) (omega arith) ∙ l.invariant.2 in
-    last_fits g.met.S.Sink.laws l.invariant.0 (sym e)
-
-pub returns-then-rest-eq0 : goal.returns-then-rest-eq0
-returns-then-rest-eq0 g c =
-    let l = c.loop-place in
-    let e = all_stored l.digits l.place l.rest 20 (omega arith) (omega arith) (omega arith) (omega arith) ∙ l.invariant.2 in
-    all_put g.met.S.Sink.laws l.invariant.0 (sym e) c.put.ensures
+pub returns-then-x-lt10 : goal.returns-then-x-lt10
+returns-then-x-lt10 c =
+    let one = ap length (decimal_last c.args.x (omega arith)) in
+    (omega (arith, one), first_stored c.args.out.now c.args.at c.args.at c.args.x (omega arith) (omega (arith, one)) (omega (arith, one)))
 
 pub loop-place-preserved : goal.loop-place-preserved
-loop-place-preserved g c =
+loop-place-preserved c =
     let l = c.loop-place in
-    (l.invariant.0, simp length-set l.invariant.1, digit_stored l.digits l.place l.rest (omega arith) (omega arith) (omega arith) ∙ l.invariant.2)
+    let more = more_digits l.rest (omega arith) in
+    (omega (arith, length_more l.rest more), simp length-set l.invariant.1, digit_stored l.out c.args.at (l.place - 1) l.rest more (omega arith) (omega arith) ∙ l.invariant.2)
+
+pub overflow_cast-out-2 : goal.overflow_cast-out-2
+overflow_cast-out-2 c = omega (arith, one_digit c.loop-place.rest (omega arith))
+
+pub overflow_add-out-2 : goal.overflow_add-out-2
+overflow_add-out-2 c = omega (arith, one_digit c.loop-place.rest (omega arith))
+
+pub bounds-out-at : goal.bounds-out-at
+bounds-out-at c = omega (arith, decimal_some c.args.x)
+
+pub bounds-out-at-2 : goal.bounds-out-at-2
+bounds-out-at-2 c = omega (arith, decimal_some c.args.x)
 
 pub returns : goal.returns
-returns g c =
+returns c =
     let l = c.loop-place in
-    absurd (omega (arith, ap length l.invariant.2, length-append (decimal l.rest) (drop l.place l.digits), length-drop l.place l.digits, decimal_some l.rest, decimal_at_most 19 c.args.x (omega arith)))
+    let one = one_digit l.rest (omega arith) in
+    let some = decimal_some l.rest in
+    (ap (λ n. c.args.at + n) c.decimal_length.ensures, first_stored l.out c.args.at c.args.at l.rest one (omega arith) (omega (arith, decimal_some c.args.x)) ∙ l.invariant.2)

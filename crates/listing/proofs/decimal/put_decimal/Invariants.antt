@@ -1,11 +1,11 @@
--- The invariant: the digits of what is left, and those that stand from the place on, are the digits of x, and all are to be put.
+-- The invariant: the digits that are left, over the bytes as they are, make the number that is asked.
 use mathlib.Core.Path.{◌≡◌}
-use mathlib.Core.List.{◌++◌}
-use lib.ListN.{length, drop}
+use Prim.Native.Nat.{◌+◌}
+use lib.ListN.{length}
+use Rattle.octets.specs.Bytes.{splice}
 use Rattle.listing.specs.Decimal.{decimal}
-use Rattle.listing.proofs.Sinks.{Left}
 use Rattle.listing.proofs.decimal.put_decimal.Given as goal
 
 abbrev pub invariant-loop-place : goal.invariant-loop-place
-invariant-loop-place g l =
-    Left g.S.Sink.after g.S.Sink.takes l.initial.to l.to (decimal l.x) (decimal l.x) × (length l.digits ≡ 20) × (decimal l.rest ++ drop l.place l.digits ≡ decimal l.x)
+invariant-loop-place l =
+    (l.place ≡ l.at + length (decimal l.rest)) × (length l.out ≡ length l.initial.out) × (splice l.out l.at (decimal l.rest) ≡ splice l.initial.out l.at (decimal l.x))
