@@ -1,5 +1,5 @@
 -- What a line leaves: the buffer, the size of the archive in it, and the used length.
-use Rattle.std.specs.Prelude.{Bool, ◌&&◌, cond, List, [], ◌∷◌, ◌++◌, ℕ, zero, suc, ◌+◌, ◌*◌, ◌/◌, ltb, leb, eqb, length, take, drop, set, codes, Option, None, Some}
+use Rattle.std.specs.Prelude.{Bool, ◌&&◌, cond, List, [], ◌∷◌, ◌++◌, ℕ, zero, suc, ◌+◌, ◌*◌, ◌/◌, ltb, leb, eqb, length, take, drop, set, replicate, codes, Option, None, Some}
 use Rattle.kinds.specs.Builder.{case_bytes}
 use Rattle.records.specs.Layout.{Line, line_of}
 use Rattle.records.specs.Buffer.{written}
@@ -9,7 +9,7 @@ use Rattle.archive.specs.Archive.{emptying, empty_bytes, filing, file_bytes}
 use Rattle.cases.specs.declared.calls.Call.{Call}
 use Rattle.cases.specs.declared.calls.Call.TheVariants.{Empty, Used, Fill, File, Record, Tear, Show, Worst, Listing, WorkOut, Load, Export}
 use Rattle.cases.specs.declared.fields.Fields.{Fields}
-use Rattle.cases.specs.declared.state.State.{State}
+use Rattle.cases.specs.declared.state.State as declared
 use Rattle.cases.specs.Words.{index_of, words_of, named_in}
 use Rattle.cases.specs.Fields.{blank, with_fields, case_in}
 
@@ -85,6 +85,20 @@ bytes_after File f b u = file_bytes b u (offer (case_in f))
 bytes_after Record f b u = recorded_bytes b u f.bytes
 bytes_after Tear f b u = torn f.number b
 bytes_after _ f b u = b
+
+-- the buffer, how many bytes of it are the archive, and how many of these are used
+pub record State : Type 0 where
+  pub buffer : List ℕ
+  pub size : ℕ
+  pub used : ℕ
+
+-- what the program's state holds, whose buffer is lent
+abbrev pub held : declared.State → State
+held s = record { buffer = s.buffer.now; size = s.size; used = s.used }
+
+-- at first the buffer is sevens, and none of it the archive
+abbrev pub started : State
+started = record { buffer = replicate 65584 7; size = 0; used = 0 }
 
 -- empty says how many bytes of the buffer are the archive from then on
 abbrev pub size_after : Call → Fields → ℕ → ℕ

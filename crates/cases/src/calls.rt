@@ -3,6 +3,7 @@ ghost use Rattle.std.specs.Prelude.{◌≡◌};
 ghost use Rattle.archive.specs.Offers.{offer};
 ghost use Rattle.archive.specs.Answers.{of_emptied, of_filing, used_in};
 ghost use Rattle.archive.specs.Archive.{emptying, empty_bytes, filing, file_bytes};
+ghost use Rattle.export.specs.Export.{loads_in};
 ghost use Rattle.cases.specs.Calls.{call_named, torn, used_after, bytes_after};
 
 use crate::fields::Fields;
@@ -172,16 +173,19 @@ fn load(output: &mut Output, figure: u64) {
 }
 
 // The four loads, zeros beside a refusal.
+fn loads_told(exported: Result<[u8; 32], Refusal>) -> [u8; 32]
+    ensures { result ≡ loads_in exported }
+{
+    exported.unwrap_or([0; 32])
+}
+
 fn export(output: &mut Output, archive: &[u8], used: u64, number: u64) {
-    let loads = match export::export(archive, used, number) {
-        Ok(loads) => loads,
-        Err(refusal) => {
-            print_refusal(output, refusal);
-            [0; 32]
-        }
-    };
+    let exported = export::export(archive, used, number);
+    if let Err(refusal) = exported {
+        print_refusal(output, refusal);
+    }
     output.print(": loads");
-    print_bytes(output, &loads);
+    print_bytes(output, &loads_told(exported));
 }
 
 // Another byte at a place.

@@ -1,5 +1,6 @@
 // The fields of a call from the words behind its name, as the command takes them.
 ghost use Rattle.std.specs.Prelude.{◌+◌, ◌/◌, ◌^◌, ◌≤◌, ◌≡◌, length};
+ghost use Rattle.std.specs.Option.{option_map};
 ghost use Rattle.octets.specs.Bytes.{bytes_of, splice};
 ghost use Rattle.cases.specs.Words.{words_of};
 ghost use Rattle.cases.specs.Fields.{blank, case_in, holds, with_number, with_field, with_fields};
@@ -75,9 +76,9 @@ impl Fields {
     }
 
     // Nothing where the number does not fit the field.
-    fn with_number(mut self, field: Field, x: u64) -> Option<Fields>
+    fn set_number(&mut self, field: Field, x: u64) -> Option<()>
         requires { holds field }
-        ensures { result ≡ with_number field x self }
+        ensures { option_map (λ _. self.new) result ≡ with_number field x self.old }
     {
         match field {
             Field::Number => self.number = x,
@@ -88,19 +89,19 @@ impl Fields {
             }
             Field::Length => self.length = u8::try_from(x).ok()?,
         }
-        Some(self)
+        Some(())
     }
 
     // Nothing where a word is neither a field and a number that fits it, nor a number alone.
-    fn with_field(self, word: &[u8]) -> Option<Fields>
-        ensures { result ≡ with_field word.now self }
+    fn set_field(&mut self, word: &[u8]) -> Option<()>
+        ensures { option_map (λ _. self.new) result ≡ with_field word.now self.old }
     {
         let sign = first(word, b'=');
         if sign == word.len() {
-            return self.with_number(Field::Number, number(word)?);
+            return self.set_number(Field::Number, number(word)?);
         }
         let field = named(&PLACES, &word[..sign])?;
-        self.with_number(field, number(&word[sign + 1..])?)
+        self.set_number(field, number(&word[sign + 1..])?)
     }
 }
 
@@ -110,7 +111,7 @@ pub fn fields_of(text: &[u8]) -> Option<Fields>
 {
     let mut fields = Fields::blank();
     for word in words(text) {
-        fields = fields.with_field(word)?;
+        fields.set_field(word)?;
     }
     Some(fields)
 }

@@ -10,7 +10,7 @@ mod state;
 mod words;
 
 use output::Output;
-use state::State;
+use state::{BUFFER_SIZE, run};
 use std::io;
 use std::io::Read;
 
@@ -21,6 +21,7 @@ fn main(rt: HostRuntime) -> io::Result<()> {
     let mut text = Vec::new(rt.alloc());
     rt.stdin().take(MOST_TEXT).read_to_end(&mut text)?;
     let mut output = Output::new(rt.stdout());
-    State::new().run(&mut output, &text);
+    let mut buffer = [0; BUFFER_SIZE];
+    run(&mut output, &text, &mut buffer);
     output.finish()
 }
