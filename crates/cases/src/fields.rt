@@ -75,7 +75,7 @@ impl Fields {
         &self.bytes[..usize::from(self.length).min(96)]
     }
 
-    // Nothing where the number does not fit the field.
+    // Nothing where the number does not fit the field; the fields are then of no account.
     fn set_number(&mut self, field: Field, x: u64) -> Option<()>
         requires { holds field }
         ensures { option_map (λ _. self.new) result ≡ with_number field x self.old }
@@ -92,7 +92,7 @@ impl Fields {
         Some(())
     }
 
-    // Nothing where a word is neither a field and a number that fits it, nor a number alone.
+    // Nothing where a word is neither a field and a number that fits it, nor a number alone; the fields are then of no account.
     fn set_field(&mut self, word: &[u8]) -> Option<()>
         ensures { option_map (λ _. self.new) result ≡ with_field word.now self.old }
     {

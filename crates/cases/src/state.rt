@@ -20,7 +20,7 @@ struct State<'a> {
 }
 
 impl<'a> State<'a> {
-    // The buffer is sevens from then on.
+    // Fills the buffer with sevens.
     fn new(buffer: &'a mut [u8; BUFFER_SIZE]) -> State<'a>
         ensures { (held result ≡ started) × (result.buffer.ghost_name ≡ buffer.entry.ghost_name) }
     {

@@ -1,6 +1,7 @@
 -- Laws of the whole listing.
 --   Accepted, accepted_facts                              what it is that an input is not refused, as facts on numbers
 --   listing_refused, listing_accepted, listing_records    the listing, by cases
+--   length_refused, length_accepted                       its length, by cases
 --   listing_at_most                                       a bound on its length
 --   listed_written, listed_needs                          what `print` answers and leaves
 --   first_decide, read_decides                            an input's first bytes, as a read leaves them, decide

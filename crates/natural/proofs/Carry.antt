@@ -1,6 +1,7 @@
 -- Laws on the loops from the lowest limb up; l is the list so far, l₀ the list at entry.
 --   Worked: Carried, Borrowed         the limbs below i are worked on, with a carry into limb i, or a borrow from it
 --   start, carried_again              `times_add`: before the loop, and after a turn
+--   borrowed_again                    after a turn that takes away; carried_end, borrowed_end: where no limb is left
 --   Columns                           a number is added to the limbs below i, or taken away
 --   columns_start, -again             `columns`: before the loops, and after a turn
 --   columns_through, -end, -stopped   where `other` has no limb more, at the end, and where nothing is carried any more
