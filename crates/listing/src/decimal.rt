@@ -24,7 +24,7 @@ pub fn put_decimal(out: &mut [u8], at: usize, x: u64) -> usize
     requires { at + length (decimal x) ≤ length out.old }
     ensures { (result ≡ at + length (decimal x)) × (out.new ≡ splice out.old at (decimal x)) }
 {
-    // Of most columns there is one digit.
+    // Most columns have one digit: by the loop a listing of them takes a seventh more.
     if x < 10 {
         out[at] = b'0' + x as u8;
         return at + 1;
